@@ -1,0 +1,11 @@
+pub mod Octets
+pub mod Fronts
+pub mod Frames
+pub mod Cuts
+pub mod Steps
+pub mod RoundTrips
+pub mod Places
+pub mod Refusals
+pub mod Alike
+pub mod Walk
+pub mod Laws

@@ -1,0 +1,9 @@
+pub mod Outer
+pub mod Units
+pub mod Reading
+pub mod Refusals
+pub mod RoundTrips
+pub mod Places
+pub mod Heads
+pub mod Walk
+pub mod Laws
