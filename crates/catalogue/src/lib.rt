@@ -5,6 +5,8 @@ ghost use Rattle.catalogue.specs.Meaning.{Meaning};
 ghost use Rattle.catalogue.specs.Laws.{Lawful};
 
 mod editions;
+#[cfg(test)]
+mod tests;
 
 pub use editions::LongCatalogue;
 pub use editions::LongEdition;
@@ -12,7 +14,7 @@ pub use editions::ShortCatalogue;
 pub use editions::ShortEdition;
 
 /// The part of the software that declined a call.
-#[derive(Clone, Copy, PartialEq, Eq, Debug)]
+#[derive(Clone, Copy, PartialEq, Debug)]
 pub enum Layer {
     Reader,
     Session,
@@ -21,7 +23,7 @@ pub enum Layer {
 }
 
 /// A declined call, by its line in the table of refusals.
-#[derive(Clone, Copy, PartialEq, Eq, Debug)]
+#[derive(Clone, Copy, PartialEq, Debug)]
 pub struct Refusal {
     pub number: u8,
     /// What this number counts (a place, octets given, octets needed) depends on the refusal's number.
@@ -30,14 +32,14 @@ pub struct Refusal {
 }
 
 /// Which way an element travels.
-#[derive(Clone, Copy, PartialEq, Eq, Debug)]
+#[derive(Clone, Copy, PartialEq, Debug)]
 pub enum Direction {
     ToNetwork,
     ToModem,
 }
 
 /// The three octets by which an operator is named: its country and network codes as packed decimal digits.
-#[derive(Clone, Copy, PartialEq, Eq, Debug)]
+#[derive(Clone, Copy, PartialEq, Debug)]
 pub struct OperatorCode {
     pub first: u8,
     pub second: u8,
@@ -45,7 +47,7 @@ pub struct OperatorCode {
 }
 
 /// What the contents of a unit may be.
-#[derive(Clone, Copy, PartialEq, Eq, Debug)]
+#[derive(Clone, Copy, PartialEq, Debug)]
 pub enum Rule {
     /// No octets.
     Empty,
@@ -72,7 +74,7 @@ pub enum Rule {
 }
 
 /// The identifiers of which one must stand in the element beside a unit.
-#[derive(Clone, Copy, PartialEq, Eq, Debug)]
+#[derive(Clone, Copy, PartialEq, Debug)]
 pub enum Companions {
     None,
     One(u16),
@@ -80,21 +82,21 @@ pub enum Companions {
 }
 
 /// A supported identifier: the rule on its contents, the slot that keeps its value (1 to 9, or 0 for none), its companions.
-#[derive(Clone, Copy, PartialEq, Eq, Debug)]
+#[derive(Clone, Copy, PartialEq, Debug)]
 pub struct Row {
     pub rule: Rule,
     pub slot: u8,
     pub companions: Companions,
 }
 
-#[derive(Clone, Copy, PartialEq, Eq, Debug)]
+#[derive(Clone, Copy, PartialEq, Debug)]
 pub enum Entry {
     Unsupported,
     Listed(Row),
 }
 
 /// A catalogue's answer: how many octets the length field has, and the row if there is one.
-#[derive(Clone, Copy, PartialEq, Eq, Debug)]
+#[derive(Clone, Copy, PartialEq, Debug)]
 pub struct Answer {
     pub width: u8,
     pub entry: Entry,

@@ -23,7 +23,7 @@ use catalogue::Layer;
 use catalogue::Refusal;
 
 /// Why an element is not whole, in the order in which the reader looks.
-#[derive(Clone, Copy, PartialEq, Eq, Debug)]
+#[derive(Clone, Copy, PartialEq, Debug)]
 pub enum ReaderFault {
     /// Too few octets for a header; so many were given.
     TooShort(usize),
@@ -38,7 +38,7 @@ pub enum ReaderFault {
 }
 
 /// A whole element in short: its configuration octet and how many units it has.
-#[derive(Clone, Copy, PartialEq, Eq, Debug)]
+#[derive(Clone, Copy, PartialEq, Debug)]
 pub struct Whole {
     pub configuration: u8,
     pub units: usize,
@@ -177,6 +177,9 @@ fn frame(element: &[u8]) -> Result<u8, ReaderFault>
     }
 }
 
+// A unit opens with an identifier of two octets.
+const IDENTIFIER_OCTETS: usize = 2;
+
 // A unit's identifier, the octets of its identifier and length field, and the length of its contents.
 #[derive(Clone, Copy)]
 struct Head {
@@ -213,7 +216,7 @@ fn read_head<C: Catalogue>(catalogue: &C, direction: Direction, octets: &[u8]) -
         [high, low, tail @ ..] => {
             let identifier = number_of(*high, *low);
             let width = catalogue.answer(direction, identifier).width;
-            let size = 2 + width as usize;
+            let size = IDENTIFIER_OCTETS + width as usize;
             match length_field(width, tail) {
                 Some(length) if size + length as usize <= octets.len() => Some(Head {
                     identifier,

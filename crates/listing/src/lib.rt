@@ -1,5 +1,7 @@
 // The text that the lister prints: one function for each line, and one for the whole listing.
 mod lines;
+#[cfg(test)]
+mod tests;
 mod text;
 
 pub use lines::count_line;
