@@ -1,10 +1,9 @@
--- Catalogues that answer alike read the same elements alike, and write the same units alike.
-use mathlib.Core.Path.{_≡_, refl, ap, ap₂, _∙_}
-use mathlib.Core.List.{List, [], _∷_, _++_}
-use Prim.Native.Nat.{ℕ, zero, suc, _+_, _*_, _/_, _%_, _<_}
+-- Catalogues that answer alike read the same elements alike.
+use mathlib.Core.Path.{_≡_, refl, ap, _∙_}
+use mathlib.Core.List.{List, [], _∷_}
+use Prim.Native.Nat.{ℕ, zero, suc, _+_, _*_, _<_}
 use native.Mathlib.Omega.{arith}
 use lib.ListN.{length, drop}
-use Rattle.std.specs.shelf.Lists.{All}
 use Rattle.std.specs.declared.result.Result.{Result}
 use Rattle.std.specs.declared.result.Result.the-variants.{Ok, Err}
 use Rattle.catalogue.specs.declared.Direction.{Direction}
@@ -12,7 +11,7 @@ use Rattle.catalogue.specs.declared.Answer.{Answer}
 use Rattle.catalogue.specs.Meaning.{Meaning}
 use Rattle.element.specs.declared.reader.ReaderFault.{ReaderFault}
 use Rattle.element.specs.Outer.{Outer, header}
-use Rattle.element.specs.Units.{Octets, ElementUnit, field, size, allWritten}
+use Rattle.element.specs.Units.{Octets, ElementUnit, size}
 use Rattle.element.specs.Reading.{frame, readFramed, readField, Front, finished, stands, past, contentsOf, Cut, stuckAt, onto, framed, front, next, cutting, reads}
 use Rattle.element.proofs.Fronts.{FrontBack, front-back, octets-drop}
 use Rattle.element.proofs.Cuts.{Small}
@@ -47,8 +46,3 @@ module _ (m n : Meaning) (d : Direction) (alike : (i : ℕ) → i < 0x10000 → 
 
   pub reads-same : (outer : Outer) (e : List ℕ) → Octets e → reads m d outer e ≡ reads n d outer e
   reads-same outer e h = framed-same outer e h (frame outer e)
-
-  pub written-same : (us : List ElementUnit) → All Small us → allWritten m d us ≡ allWritten n d us
-  written-same [] h = refl
-  written-same (u ∷ us) h =
-      ap₂ (λ (t : Answer) (os : List ℕ). (u .identifier / 256) ∷ (u .identifier % 256) ∷ ((field (t .width) (length (u .contents)) ++ u .contents) ++ os)) (alike (u .identifier) (h .0)) (written-same us (h .1))

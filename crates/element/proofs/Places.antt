@@ -14,12 +14,12 @@ use Rattle.catalogue.specs.Laws.{Lawful}
 use Rattle.element.specs.declared.reader.ReaderFault.the-variants.{RunsPast}
 use Rattle.element.specs.Outer.{Outer, LawfulOuter, header}
 use Rattle.element.specs.Units.{Octets, ElementUnit, field, width, size, written, allWritten, element}
-use Rattle.element.specs.Reading.{Front, stands, past, front, whole, declined, reads}
+use Rattle.element.specs.Reading.{stands, front, whole, declined, reads}
 use Rattle.element.specs.Places.{placeFrom, placeAfter, Places}
-use Rattle.element.specs.Walk.{Found, Position, placed, foundAt, placeBehind, positionAfter, Gives, WalkLaw}
+use Rattle.element.specs.Walk.{Found, Position, foundAt, placeBehind, Gives, WalkLaw}
 use Rattle.element.proofs.Fronts.{field-length, written-length, front-read}
 use Rattle.element.proofs.Frames.{header-read}
-use Rattle.element.proofs.RoundTrips.{ReadingBack, reading-back, reading-is}
+use Rattle.element.proofs.RoundTrips.{reading-is}
 
 module _ (m : Meaning) (d : Direction) where
   written-++ : (xs ys : List ElementUnit) → allWritten m d (xs ++ ys) ≡ allWritten m d xs ++ allWritten m d ys
@@ -81,7 +81,8 @@ module _ (m : Meaning) (d : Direction) where
             units = λ before u after s. ap (foundAt m d (placeAfter m d outer before)) (at before u after s);
             steps =
                 λ before u after s.
-                ap (λ (p : ℕ). position p) (ap (placeBehind m d (placeAfter m d outer before)) (at before u after s) ∙ sym (place-one-more (header outer) before u));
+                ap (λ (f : Found). position (placeBehind (placeAfter m d outer before) f)) (ap (foundAt m d (placeAfter m d outer before)) (at before u after s))
+                ∙ ap (λ (p : ℕ). position p) (omega (arith, place-one-more (header outer) before u));
             end = ap (λ (l : List ℕ). foundAt m d (placeAfter m d outer us) (front m d l)) (behind us left tiled) ∙ q;
           }
         where

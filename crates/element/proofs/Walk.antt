@@ -1,9 +1,9 @@
--- One step of a walk, as the cursor makes it.
+-- One step of a walk, as the code makes it.
 use mathlib.Core.Path.{_≡_, refl, sym, ap, ap₂, subst, _∙_}
 use mathlib.Core.List.{List, []}
 use Prim.Native.Nat.{ℕ, _+_, _-_, _<_, _≤_}
 use native.Mathlib.Omega.{arith}
-use lib.ListN.{length, take, drop, length-take, length-drop}
+use lib.ListN.{length, take, drop}
 use Rattle.std.proofs.shelf.Lists.{drop-all, drop-drop}
 use Rattle.std.specs.declared.option.Option.{Option}
 use Rattle.std.specs.declared.option.Option.the-variants.{Some, None}
@@ -16,49 +16,31 @@ use Rattle.element.specs.declared.reader.Head.{Head}
 use Rattle.element.specs.declared.reader.PlacedUnit.{PlacedUnit}
 use Rattle.element.specs.declared.reader.ReaderFault.{ReaderFault}
 use Rattle.element.specs.declared.reader.ReaderFault.the-variants.{RunsPast}
-use Rattle.element.specs.Units.{ElementUnit, unit, size}
-use Rattle.element.specs.Reading.{Front, finished, stands, past, front, Cut, cut, stuckAt, onto, next, cutting}
+use Rattle.element.specs.Units.{ElementUnit, unit, width, size}
+use Rattle.element.specs.Reading.{Front, finished, stands, past, front, cut, stuckAt, onto, next, cutting}
 use Rattle.element.specs.Heads.{frontAs, Within}
-use Rattle.element.specs.Walk.{Found, Placed, Position, placed, foundAt, placeBehind, seen, unitAt, stepFrom, cutFrom, counted}
+use Rattle.element.specs.Walk.{Found, Placed, Position, placed, foundAt, placeBehind, seen, unitAt, stepFrom, cutFrom}
 use Rattle.element.proofs.Steps.{FrontSized, front-sized, cut-step}
-
--- an answer at a position, and the position after it
-pub record Step (m : Meaning) (d : Direction) (s : Position) (given : Found) (next : Position) : Type 0 where
-  pub answer : given ≡ unitAt m d s
-  pub state : next ≡ stepFrom m d s
 
 module _ (m : Meaning) (d : Direction) (e : List ℕ) (p : ℕ) where
   abbrev here : Position
   here = record { octets = e; place = p }
 
-  by-front : (f : Front) → f ≡ front m d (drop p e) → Step m d here (foundAt m d p f) (record { octets = e; place = placeBehind m d p f })
-  by-front f q = record { answer = ap (foundAt m d p) q; state = ap (λ (g : Front). position (placeBehind m d p g)) q }
-    where
-      position : ℕ → Position
-      position k = record { octets = e; place = k }
+  by-front : (f : Front) → f ≡ front m d (drop p e) → foundAt m d p f ≡ unitAt m d here
+  by-front f q = ap (foundAt m d p) q
 
-  pub at-end : length e ≤ p → Step m d here (Ok None) here
+  pub at-end : length e ≤ p → Ok None ≡ unitAt m d here
   at-end h = by-front (front m d []) (ap (front m d) (sym (drop-all p e h)))
 
-  pub at-fault : past ≡ front m d (drop p e) → Step m d here (Err (RunsPast p)) here
+  pub at-fault : past ≡ front m d (drop p e) → Err (RunsPast p) ≡ unitAt m d here
   at-fault q = by-front past q
 
-  -- the unit that a head opens, in the octets from a place to another
-  pub at-head : (h : Head) → frontAs (Some h) (drop p e) ≡ front m d (drop p e) → Within m d (Some h) (drop p e) → (start end : ℕ) → start ≡ p + h .size → end ≡ start + h .length → Step m d here (Ok (Some (record { place = p; identifier = h .identifier; start = start; contents = take (end - start) (drop start e) }))) (record { octets = e; place = end })
+  -- the unit that a head opens, its contents from the place `start` to the place `end`
+  pub at-head : (h : Head) → frontAs (Some h) (drop p e) ≡ front m d (drop p e) → Within m d (Some h) (drop p e) → (start end : ℕ) → start ≡ p + h .size → end ≡ start + h .length → Ok (Some (record { place = p; identifier = h .identifier; start = start; contents = take (end - start) (drop start e) })) ≡ unitAt m d here
   at-head h q w start end s t =
-      let found = by-front (frontAs (Some h) (drop p e)) q in
-      let contents : take (end - start) (drop start e) ≡ take (h .length) (drop (h .size) (drop p e)) = ap₂ take (omega (arith, t)) (ap (λ (k : ℕ). drop k e) s ∙ sym (drop-drop (h .size) p e)) in
-      let long : length (take (h .length) (drop (h .size) (drop p e))) ≡ h .length = omega (arith, w .1, length-take (h .length) (drop (h .size) (drop p e)), length-drop (h .size) (drop p e)) in
-      record {
-        answer = ap₂ (λ (k : ℕ) (l : List ℕ). Ok (Some (placedAt k l))) (omega (arith, s, w .0)) contents ∙ found .answer;
-        state = ap (λ (k : ℕ). position k) (omega (arith, s, t, w .0, long)) ∙ found .state;
-      }
-    where
-      placedAt : ℕ → List ℕ → Placed
-      placedAt k l = record { place = p; identifier = h .identifier; start = k; contents = l }
-
-      position : ℕ → Position
-      position k = record { octets = e; place = k }
+      ap₂ (λ (k : ℕ) (l : List ℕ). Ok (Some (record { place = p; identifier = h .identifier; start = k; contents = l }))) (omega (arith, s, w .0))
+      (ap₂ (λ (n : ℕ) (l : List ℕ). take n l) (omega (arith, t)) (ap (λ (k : ℕ). drop k e) s ∙ sym (drop-drop (h .size) p e)))
+      ∙ by-front (frontAs (Some h) (drop p e)) q
 
 -- the octets that are left at a position
 abbrev pub left : Position → ℕ
@@ -82,15 +64,17 @@ module _ (m : Meaning) (d : Direction) (s : Position) where
   Onward (Err f) t = (f ≡ RunsPast (s .place)) × (cutFrom m d s ≡ stuckAt (s .place))
 
   module _ (law : Lawful m) where
-    onward-by : (f : Front) → FrontSized m law d (drop (s .place) (s .octets)) f → cutFrom m d s ≡ next m d f (λ q rest. cutting m d (length rest) q rest) (s .place) → Onward (foundAt m d (s .place) f) (record { octets = s .octets; place = placeBehind m d (s .place) f })
+    onward-by : (f : Front) → FrontSized m law d (drop (s .place) (s .octets)) f → cutFrom m d s ≡ next m d f (λ q rest. cutting m d (length rest) q rest) (s .place) → Onward (foundAt m d (s .place) f) (record { octets = s .octets; place = placeBehind (s .place) (foundAt m d (s .place) f) })
     onward-by finished z q = q
     onward-by past z q = (refl, q)
     onward-by (stands u rest) z q =
-        let on : rest ≡ drop (s .place + size m d u) (s .octets) = z .1 ∙ drop-drop (size m d u) (s .place) (s .octets) in
+        let end : s .place + 2 + width m d u + length (u .contents) ≡ s .place + size m d u = omega arith in
+        let on : rest ≡ drop (s .place + 2 + width m d u + length (u .contents)) (s .octets) =
+        z .1 ∙ drop-drop (size m d u) (s .place) (s .octets) ∙ ap (λ (k : ℕ). drop k (s .octets)) (sym end) in
         record {
           here = refl;
-          behind = refl;
-          cuts = q ∙ ap (λ (l : List ℕ). onto u (cutting m d (length l) (s .place + size m d u) l)) on;
+          behind = end;
+          cuts = q ∙ ap₂ (λ (k : ℕ) (l : List ℕ). onto u (cutting m d (length l) k l)) (sym end) on;
           less = omega (arith, z .0, ap length on);
         }
 
@@ -104,8 +88,3 @@ module _ (m : Meaning) (d : Direction) (s : Position) where
     -- the same of what a call of the cursor returned, once that is known to be v
     pub turned : (r v : Result (Option PlacedUnit) ReaderFault) (t : Position) → seen r ≡ unitAt m d s → t ≡ stepFrom m d s → r ≡ v → Onward (seen v) t
     turned r v t answer state q = subst (λ (x : Result (Option PlacedUnit) ReaderFault). Onward (seen x) t) q (onward (seen r) t answer state)
-
--- one unit more is one more to count
-pub counted-onto : (n : ℕ) (u : ElementUnit) (c : Cut) → counted (n + 1) c ≡ counted n (onto u c)
-counted-onto n u (cut us) = ap (λ (k : ℕ). Ok k) (omega arith)
-counted-onto n u (stuckAt p) = refl

@@ -15,6 +15,7 @@ use Rattle.element.specs.Reading.{Reading, whole, declined, reads}
 use Rattle.element.specs.Refusals.{RefusedInOrder}
 use Rattle.element.specs.RoundTrips.{ReadBack, WrittenBack}
 use Rattle.element.specs.Places.{Places}
+use Rattle.element.specs.Walk.{WalkLaw}
 
 -- what `read` answers: the configuration octet and the number of units, or the fault
 abbrev pub summary : Reading → Result Whole ReaderFault
@@ -25,6 +26,7 @@ pub record ReadingLaw (m : Meaning) (d : Direction) (outer : Outer) (e : List �
   pub read-back : ReadBack m d outer
   pub written-back : WrittenBack m d outer e
   pub places : (o : ℕ) (us : List ElementUnit) → reads m d outer e ≡ whole o us → Places m d outer e us
+  pub walk : WalkLaw m d outer e
   pub refusals : RefusedInOrder m d outer e
   -- catalogues that answer alike read alike
   pub alike : (n : Meaning) → AnswerAlike m n → reads n d outer e ≡ reads m d outer e

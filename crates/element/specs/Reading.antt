@@ -66,14 +66,6 @@ abbrev pub framed : ℕ → Cut → Reading
 framed o (cut us) = whole o us
 framed o (stuckAt p) = declined (RunsPast p)
 
-abbrev pub IsWhole : Reading → Type 0
-IsWhole (whole o us) = Unit {0}
-IsWhole (declined f) = ⊥
-
-abbrev pub unitsOf : Reading → List ElementUnit
-unitsOf (whole o us) = us
-unitsOf (declined f) = []
-
 module _ (m : Meaning) (d : Direction) where
   abbrev pub front : List ℕ → Front
   front [] = finished

@@ -1,7 +1,7 @@
 -- A walk over the units of an element: what stands at a place, and the place after it.
 use mathlib.Core.Path.{_≡_}
 use mathlib.Core.List.{List, [], _∷_, _++_}
-use Prim.Native.Nat.{ℕ, _+_}
+use Prim.Native.Nat.{ℕ, _+_, _≤_}
 use lib.ListN.{length, drop}
 use Rattle.std.specs.declared.option.Option.{Option}
 use Rattle.std.specs.declared.option.Option.the-variants.{Some, None}
@@ -14,8 +14,8 @@ use Rattle.element.specs.declared.reader.PlacedUnit.{PlacedUnit}
 use Rattle.element.specs.declared.reader.ReaderFault.{ReaderFault}
 use Rattle.element.specs.declared.reader.ReaderFault.the-variants.{RunsPast}
 use Rattle.element.specs.Outer.{Outer, header}
-use Rattle.element.specs.Units.{ElementUnit, width, size}
-use Rattle.element.specs.Reading.{Front, finished, stands, past, front, Cut, cut, stuckAt, cutting, whole, declined, frame, reads}
+use Rattle.element.specs.Units.{ElementUnit, width}
+use Rattle.element.specs.Reading.{Front, finished, stands, past, front, Cut, cutting, whole, declined, frame, reads}
 use Rattle.element.specs.Places.{placeAfter}
 
 -- a unit where it stands: its place, its identifier, where its contents start, and its contents
@@ -51,18 +51,29 @@ abbrev pub opened : Result Cursor ReaderFault → Result Position ReaderFault
 opened (Err f) = Err f
 opened (Ok c) = Ok (position c)
 
--- a walk begins after the header of an element that passes its frame's tests
-abbrev pub startAfter : Outer → List ℕ → Result ℕ ReaderFault → Result Position ReaderFault
-startAfter outer e (Err f) = Err f
-startAfter outer e (Ok o) = Ok (record { octets = e; place = header outer })
+-- the position behind the header
+abbrev pub behindHeader : Outer → List ℕ → Position
+behindHeader outer e = record { octets = e; place = header outer }
+
+-- a walk begins there, if the element passes the tests of its frame
+abbrev pub startBy : Outer → List ℕ → Result ℕ ReaderFault → Result Position ReaderFault
+startBy outer e (Err f) = Err f
+startBy outer e (Ok o) = Ok (behindHeader outer e)
 
 abbrev pub start : Outer → List ℕ → Result Position ReaderFault
-start outer e = startAfter outer e (frame outer e)
+start outer e = startBy outer e (frame outer e)
 
--- how many units a cut has, besides n more, or the fault
-abbrev pub counted : ℕ → Cut → Result ℕ ReaderFault
-counted n (cut us) = Ok (n + length us)
-counted n (stuckAt p) = Err (RunsPast p)
+-- the place behind the unit found at the place p; where none was found, the place stays
+abbrev pub placeBehind : ℕ → Found → ℕ
+placeBehind p (Ok (Some u)) = u .start + length (u .contents)
+placeBehind p (Ok None) = p
+placeBehind p (Err f) = p
+
+-- a unit that was found ends within n octets
+abbrev pub Ends : Found → ℕ → Type 0
+Ends (Ok (Some u)) n = u .start + length (u .contents) ≤ n
+Ends (Ok None) n = Unit {0}
+Ends (Err f) n = Unit {0}
 
 module _ (m : Meaning) (d : Direction) where
   -- the unit u where it stands at the place p
@@ -74,18 +85,13 @@ module _ (m : Meaning) (d : Direction) where
   foundAt p past = Err (RunsPast p)
   foundAt p (stands u rest) = Ok (Some (placed p u))
 
-  abbrev pub placeBehind : ℕ → Front → ℕ
-  placeBehind p finished = p
-  placeBehind p past = p
-  placeBehind p (stands u rest) = p + size m d u
-
   -- what stands at a position
   abbrev pub unitAt : Position → Found
   unitAt s = foundAt (s .place) (front m d (drop (s .place) (s .octets)))
 
-  -- the position after what stands there; where no unit stands the position stays
+  -- the position behind what stands there
   abbrev pub stepFrom : Position → Position
-  stepFrom s = record { octets = s .octets; place = placeBehind (s .place) (front m d (drop (s .place) (s .octets))) }
+  stepFrom s = record { octets = s .octets; place = placeBehind (s .place) (unitAt s) }
 
   -- the octets from a position on, cut into units
   abbrev pub cutFrom : Position → Cut

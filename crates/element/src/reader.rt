@@ -2,8 +2,6 @@
 ghost use mathlib.Core.Path.{_≡_};
 ghost use Prim.Native.Nat.{_+_, _*_, _<_};
 ghost use lib.ListN.{length};
-ghost use Rattle.catalogue.specs.Laws.{Lawful};
-ghost use Rattle.catalogue.specs.Meaning.{Meaning};
 ghost use Rattle.element.specs.Heads as heads;
 ghost use Rattle.element.specs.Laws as laws;
 ghost use Rattle.element.specs.Outer.{options};
@@ -84,13 +82,9 @@ impl<'a> Cursor<'a> {
     /// Stands before the first unit of an element, or gives the fault of the element's frame.
     pub fn open(element: &'a [u8]) -> Result<Cursor<'a>, ReaderFault>
         ensures answer { λ r. ⌜ walk.opened r ≡ walk.start options (now (element .entry)) ⌝ }
-        ensures law { λ _. ⌜ ((m : Meaning) → Lawful m → (d : Direction) → walk.WalkLaw m d options (now (element .entry))) ⌝ }
     {
-        frame(element)?;
-        Ok(Cursor {
-            octets: element,
-            place: HEADER,
-        })
+        let _configuration = frame(element)?;
+        Ok(before_units(element))
     }
 
     /// The next unit, and the cursor goes behind it; or none at the end of the element, or the fault of a unit that runs
@@ -103,23 +97,11 @@ impl<'a> Cursor<'a> {
         ensures answer { λ r. ⌜ walk.seen r ≡ walk.unitAt (meaning (now (catalogue .entry))) direction (walk.position (now (self .entry))) ⌝ }
         ensures state { λ _. ⌜ walk.position (now (self .exit)) ≡ walk.stepFrom (meaning (now (catalogue .entry))) direction (walk.position (now (self .entry))) ⌝ }
     {
-        let octets = self.octets;
-        let place = self.place;
-        if place >= octets.len() {
-            return Ok(None);
+        let found = unit_at(catalogue, direction, self.octets, self.place)?;
+        if let Some(unit) = found {
+            self.place = unit.start + unit.contents.len();
         }
-        let Some(head) = read_head(catalogue, direction, &octets[place..]) else {
-            return Err(ReaderFault::RunsPast(place));
-        };
-        let start = place + head.size;
-        let end = start + head.length;
-        self.place = end;
-        Ok(Some(PlacedUnit {
-            place,
-            identifier: head.identifier,
-            start,
-            contents: &octets[start..end],
-        }))
+        Ok(found)
     }
 }
 
@@ -132,31 +114,73 @@ pub fn read<C: Catalogue>(
     ensures answer { λ r. ⌜ r ≡ laws.summary (reading.reads (meaning (now (catalogue .entry))) direction options (now (element .entry))) ⌝ }
     ensures law { λ _. ⌜ laws.ReadingLaw (meaning (now (catalogue .entry))) direction options (now (element .entry)) ⌝ }
 {
+    reading_law(catalogue, direction, element);
     let configuration = frame(element)?;
-    let cursor = Cursor {
-        octets: element,
-        place: HEADER,
-    };
-    let units = count_units(catalogue, direction, cursor)?;
-    Ok(Whole {
-        configuration,
-        units,
-    })
+    count_units(catalogue, direction, element, configuration)
 }
 
-// How many units stand from the cursor on.
+// The law of reading, which `read` passes on. There is nothing to compute: a look at the slice shows the checker that its
+// elements are octets.
+fn reading_law<C: Catalogue>(catalogue: &C, direction: Direction, element: &[u8])
+    ensures law { λ _. ⌜ laws.ReadingLaw (meaning (now (catalogue .entry))) direction options (now (element .entry)) ⌝ }
+{
+    let _first = element.first();
+}
+
+// The cursor before the first unit of a framed element.
+fn before_units(element: &[u8]) -> Cursor<'_>
+    ensures answer { λ r. ⌜ walk.position r ≡ walk.behindHeader options (now (element .entry)) ⌝ }
+{
+    Cursor {
+        octets: element,
+        place: HEADER,
+    }
+}
+
+// The unit at a place of the octets; none at their end.
+fn unit_at<'a, C: Catalogue>(
+    catalogue: &C,
+    direction: Direction,
+    octets: &'a [u8],
+    place: usize,
+) -> Result<Option<PlacedUnit<'a>>, ReaderFault>
+    ensures answer { λ r. ⌜ walk.seen r ≡ walk.unitAt (meaning (now (catalogue .entry))) direction (record { octets = now (octets .entry); place = place }) ⌝ }
+    ensures within { λ r. ⌜ walk.Ends (walk.seen r) (length (now (octets .entry))) ⌝ }
+{
+    if place >= octets.len() {
+        return Ok(None);
+    }
+    let Some(head) = read_head(catalogue, direction, &octets[place..]) else {
+        return Err(ReaderFault::RunsPast(place));
+    };
+    let start = place + head.size;
+    let end = start + head.length;
+    Ok(Some(PlacedUnit {
+        place,
+        identifier: head.identifier,
+        start,
+        contents: &octets[start..end],
+    }))
+}
+
+// Counts the units of a framed element, whose configuration octet is given.
 fn count_units<C: Catalogue>(
     catalogue: &C,
     direction: Direction,
-    mut cursor: Cursor<'_>,
-) -> Result<usize, ReaderFault>
-    ensures answer { λ r. ⌜ r ≡ walk.counted 0 (walk.cutFrom (meaning (now (catalogue .entry))) direction (walk.position (cursor .entry))) ⌝ }
+    element: &[u8],
+    configuration: u8,
+) -> Result<Whole, ReaderFault>
+    ensures answer { λ r. ⌜ r ≡ laws.summary (reading.framed configuration (walk.cutFrom (meaning (now (catalogue .entry))) direction (walk.behindHeader options (now (element .entry))))) ⌝ }
 {
+    let mut cursor = before_units(element);
     let mut units = 0;
     while let Some(_) = cursor.next_unit(catalogue, direction)? {
         units += 1;
     }
-    Ok(units)
+    Ok(Whole {
+        configuration,
+        units,
+    })
 }
 
 // The configuration octet of an element that passes the tests of its frame.

@@ -1,13 +1,12 @@
 -- Hexadecimal figures read back, and are ASCII.
 use mathlib.Core.Path.{_≡_, ap, _∙_}
 use mathlib.Core.List.{[], _∷_}
-use mathlib.Core.Bool.{cond}
 use Prim.Native.Nat.{ℕ, _+_, _-_, _*_, _/_, _%_, _<_}
 use native.Mathlib.Omega.{arith}
 use lib.Dec.{ltb}
 use lib.Utf8.{encode}
 use Rattle.std.proofs.shelf.Ascii.{encode-ascii}
-use Rattle.std.proofs.shelf.Tests.{cond-both, cond-true, cond-false, ltb-true, ltb-false, lt-ltb, le-ltb}
+use Rattle.std.proofs.shelf.Tests.{cond-both, ltb-true, ltb-false}
 use Rattle.listing.specs.Figures.{figure, figuresOf, halfOf, valueOf}
 
 pub figure-ascii : (h : ℕ) → h < 16 → figure h < 128

@@ -1,13 +1,13 @@
 -- A listing, line by line: what stands in the text so far, and the lines to come.
-use mathlib.Core.Path.{_≡_, refl, sym, ap, ap₂, subst, _∙_}
+use mathlib.Core.Path.{_≡_, refl, sym, ap, ap₂, _∙_}
 use mathlib.Core.List.{List, [], _∷_, _++_, append-assoc, append-nil}
 use Prim.Native.Nat.{ℕ, _+_}
 use native.Mathlib.Omega.{arith}
 use Rattle.catalogue.specs.declared.Direction.{Direction}
 use Rattle.catalogue.specs.Meaning.{Meaning}
-use Rattle.element.specs.Units.{ElementUnit, size}
+use Rattle.element.specs.Units.{ElementUnit}
 use Rattle.element.specs.Reading.{Cut, cut, stuckAt, onto}
-use Rattle.element.specs.Walk.{Placed, Position, placed, cutFrom}
+use Rattle.element.specs.Walk.{Placed, Position, cutFrom}
 use Rattle.element.proofs.Walk.{unitOf, OneMore}
 use Rattle.listing.specs.Lines.{unitLine}
 use Rattle.listing.specs.Listing.{ended, unitLines}

@@ -8,6 +8,5 @@ pub use lines::count_line;
 pub use lines::fault_line;
 pub use lines::heading;
 pub use lines::hex_figure;
-pub use lines::identifier_figures;
 pub use lines::unit_line;
 pub use text::list;

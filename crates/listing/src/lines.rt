@@ -1,7 +1,6 @@
 // The lines of a listing. None ends with a line feed.
 ghost use mathlib.Core.Path.{_≡_};
 ghost use Prim.Native.Nat.{_%_};
-ghost use lib.Chars.{codes};
 ghost use Rattle.std.specs.Of.String.{string-bytes};
 ghost use Rattle.std.specs.Vec.{made};
 ghost use Rattle.element.specs.Walk.{placedUnit};
@@ -25,21 +24,6 @@ pub fn hex_figure(octet: u8) -> char
     }
 }
 
-/// The four hexadecimal figures of an identifier, the highest first.
-pub fn identifier_figures(identifier: u16) -> [char; 4]
-    ensures answer { λ r. ⌜ r ≡ figures.figuresOf identifier ⌝ }
-    ensures law { λ _. ⌜ figures.valueOf (figures.figuresOf identifier) ≡ identifier ⌝ }
-{
-    let high = (identifier / 256) as u8;
-    let low = (identifier % 256) as u8;
-    [
-        hex_figure(high / 16),
-        hex_figure(high),
-        hex_figure(low / 16),
-        hex_figure(low),
-    ]
-}
-
 /// The first line: the names of the fields.
 pub fn heading() -> &'static str
     ensures answer { λ r. ⌜ now r ≡ lines.heading ⌝ }
@@ -50,11 +34,12 @@ pub fn heading() -> &'static str
 /// A unit's line: its place, its identifier in hexadecimal and the length of its contents.
 pub fn unit_line(heap: Global, unit: PlacedUnit<'_>) -> Result<String, AllocError>
     ensures answer { λ r. ⌜ made r (λ s. string-bytes s ≡ lines.unitLine (placedUnit (unit .entry))) ⌝ }
+    ensures law { λ _. ⌜ figures.valueOf (figures.figuresOf (unit .entry .identifier)) ≡ unit .entry .identifier ⌝ }
 {
     let place = unit.place;
-    let [first, second, third, fourth] = identifier_figures(unit.identifier);
+    let identifier = figures_of(heap, unit.identifier)?;
     let length = unit.contents.len();
-    format!(heap, "{place} {first}{second}{third}{fourth} {length}")
+    format!(heap, "{place} {identifier} {length}")
 }
 
 /// The last line: how many units and octets the element has, and how it was read.
@@ -74,4 +59,18 @@ pub fn fault_line(heap: Global, refusal: Refusal) -> Result<String, AllocError>
     let number = refusal.number;
     let place = refusal.place;
     format!(heap, "fault {number} at {place}")
+}
+
+// The four hexadecimal figures of an identifier, the highest first; read as a number they are the identifier.
+fn figures_of(heap: Global, identifier: u16) -> Result<String, AllocError>
+    ensures answer { λ r. ⌜ made r (λ s. string-bytes s ≡ figures.figuresOf identifier) ⌝ }
+    ensures law { λ _. ⌜ figures.valueOf (figures.figuresOf identifier) ≡ identifier ⌝ }
+{
+    let high = (identifier / 256) as u8;
+    let low = (identifier % 256) as u8;
+    let first = hex_figure(high / 16);
+    let second = hex_figure(high);
+    let third = hex_figure(low / 16);
+    let fourth = hex_figure(low);
+    format!(heap, "{first}{second}{third}{fourth}")
 }

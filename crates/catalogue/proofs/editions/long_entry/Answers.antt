@@ -1,6 +1,6 @@
-use mathlib.Core.Path.{_≡_, sym, ap, _∙_}
+use mathlib.Core.Path.{sym, ap, _∙_}
 use Rattle.catalogue.specs.declared.Entry.{Entry}
-use Rattle.catalogue.specs.Editions.{short, added}
+use Rattle.catalogue.specs.Editions.{added}
 use Rattle.catalogue.proofs.Tables.{orElse, long-is}
 use Rattle.catalogue.proofs.editions.long_entry.Needs as need
 
