@@ -31,9 +31,12 @@ abbrev pub SlotKept : Entry → Type 0
 SlotKept Unsupported = Unit {0}
 SlotKept (Listed r) = (r .slot ≡ 0) ⊎ RuleOfSlot (r .slot) (r .rule)
 
+-- a length field has one octet or two
+abbrev pub OneOrTwo : ℕ → Type 0
+OneOrTwo w = (w ≡ 1) ⊎ (w ≡ 2)
+
 pub record Lawful (m : Meaning) : Type 0 where
-  -- the length field has one octet or two
-  pub width : (d : Direction) (i : ℕ) → (m d i .width ≡ 1) ⊎ (m d i .width ≡ 2)
+  pub width : (d : Direction) (i : ℕ) → OneOrTwo (m d i .width)
   -- a row with a slot other than 0 has that slot's rule
   pub slot : (d : Direction) (i : ℕ) → SlotKept (m d i .entry)
   -- an identifier named as companion is below FF00, and its own row in that direction, if any, has slot 0 and no companions

@@ -10,11 +10,11 @@ use crate::Entry;
 use crate::Row;
 use crate::Rule;
 
-/// The identifiers of the earlier text of the standard.
+/// The identifiers of an earlier text of the standard's table, whose containers end at 0011.
 #[derive(Clone, Copy)]
 pub struct ShortEdition;
 
-/// The identifiers of the later text of the standard: the short edition and its additions.
+/// The identifiers of a later text, whose containers end at 0022: the short edition and its additions.
 #[derive(Clone, Copy)]
 pub struct LongEdition;
 
@@ -44,7 +44,7 @@ pub impl Catalogue for LongEdition as LongCatalogue {
 }
 
 fn short_entry(direction: Direction, identifier: u16) -> Entry
-    ensures { λ r. ⌜ r ≡ tables.short direction identifier .entry ⌝ }
+    ensures answer { λ r. ⌜ r ≡ tables.short direction identifier .entry ⌝ }
 {
     let to_network = direction == Direction::ToNetwork;
     match identifier {
@@ -69,7 +69,7 @@ fn short_entry(direction: Direction, identifier: u16) -> Entry
 
 // The identifiers that the long edition adds.
 fn added_entry(direction: Direction, identifier: u16) -> Entry
-    ensures { λ r. ⌜ r ≡ tables.added direction identifier .entry ⌝ }
+    ensures answer { λ r. ⌜ r ≡ tables.added direction identifier .entry ⌝ }
 {
     let to_network = direction == Direction::ToNetwork;
     match identifier {
@@ -78,20 +78,20 @@ fn added_entry(direction: Direction, identifier: u16) -> Entry
             slot: 0,
             companions: Companions::Two(0x0001, 0x000C),
         }),
-        0x0013 | 0x0018 => row(Rule::Empty, 0),
-        0x0014 => row(Rule::Indicator, 0),
         0x0015..=0x0016 | 0x0019 | 0x0020..=0x0021 if to_network => row(Rule::Empty, 0),
         0x0017 if to_network => row(Rule::Mode, 0),
         0x001A | 0x0022 if to_network => row(Rule::Any, 0),
         0x0017 if !to_network => row(Rule::Empty, 0),
         0x0015 | 0x001E | 0x0020..=0x0021 if !to_network => row(Rule::Number, 0),
         0x0016 | 0x0019 | 0x001B..=0x001D | 0x001F if !to_network => row(Rule::Any, 0),
+        0x0013 | 0x0018 => row(Rule::Empty, 0),
+        0x0014 => row(Rule::Indicator, 0),
         _ => Entry::Unsupported,
     }
 }
 
 fn long_entry(direction: Direction, identifier: u16) -> Entry
-    ensures { λ r. ⌜ r ≡ tables.long direction identifier .entry ⌝ }
+    ensures answer { λ r. ⌜ r ≡ tables.long direction identifier .entry ⌝ }
 {
     match short_entry(direction, identifier) {
         Entry::Unsupported => added_entry(direction, identifier),
@@ -101,7 +101,7 @@ fn long_entry(direction: Direction, identifier: u16) -> Entry
 
 // A row with no companions.
 fn row(rule: Rule, slot: u8) -> Entry
-    ensures { λ r. ⌜ r ≡ tables.listed rule slot Companions.None ⌝ }
+    ensures answer { λ r. ⌜ r ≡ tables.listed rule slot Companions.None ⌝ }
 {
     Entry::Listed(Row {
         rule,

@@ -1,5 +1,5 @@
-// What a catalogue answers for each identifier of a protocol configuration options element, and the table of refusals'
-// common shape. Every other crate builds on these types.
+// What a catalogue answers for each identifier of a protocol configuration options element, and the shape that all
+// refusals share. Every other crate builds on these types.
 ghost use mathlib.Core.Path.{_≡_};
 ghost use Rattle.catalogue.specs.Meaning.{Meaning};
 ghost use Rattle.catalogue.specs.Laws.{Lawful};
@@ -73,7 +73,7 @@ pub enum Rule {
     StrikeOrder(OperatorCode),
 }
 
-/// The identifiers of which one must stand in the element beside a unit.
+/// Identifiers of which at least one must also stand in the element.
 #[derive(Clone, Copy, PartialEq, Debug)]
 pub enum Companions {
     None,
@@ -89,6 +89,7 @@ pub struct Row {
     pub companions: Companions,
 }
 
+/// What a catalogue has for an identifier in a direction.
 #[derive(Clone, Copy, PartialEq, Debug)]
 pub enum Entry {
     Unsupported,

@@ -1,4 +1,4 @@
--- Octets cut into units: reading what was written, writing what was read, and one unit at a time as a loop goes.
+-- Octets cut into units: reading what was written, and writing what was read.
 use mathlib.Core.Path.{_≡_, refl, sym, ap, _∙_}
 use mathlib.Core.List.{List, [], _∷_, _++_, append-assoc}
 use mathlib.Core.Bool.{Bool, true, false, cond}

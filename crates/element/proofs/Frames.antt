@@ -10,19 +10,20 @@ use Rattle.std.proofs.shelf.Tests.{cond-both, ltb-true, ltb-false, leb-true, le
 use Rattle.std.specs.declared.result.Result.{Result}
 use Rattle.catalogue.specs.declared.Direction.{Direction}
 use Rattle.catalogue.specs.Meaning.{Meaning}
+use Rattle.catalogue.specs.Laws.{OneOrTwo}
 use Rattle.element.specs.declared.reader.ReaderFault.{ReaderFault}
 use Rattle.element.specs.declared.reader.ReaderFault.the-variants.{TooShort, WrongFirst, LengthDiffers, TooLong}
-use Rattle.element.specs.Outer.{Outer, header, numberAt, announced, configuration}
+use Rattle.element.specs.Outer.{Outer, uncountedOf, headerOf, header, numberAt, announced, configuration}
 use Rattle.element.specs.Units.{Octets, field}
 use Rattle.element.specs.Reading.{Reading, declined, framed, cutting, readFramed, reads}
-use Rattle.element.proofs.Fronts.{OneOrTwo, high-low, high-of, low-of}
+use Rattle.element.proofs.Fronts.{high-low, high-of, low-of}
 
 -- a header that was written is found again
 pub record HeaderRead (w n o : ℕ) (os e : List ℕ) : Type 0 where
   pub number : numberAt w e 1 ≡ n
-  pub octet : getD e (1 + w) 0 ≡ o
-  pub rest : drop (2 + w) e ≡ os
-  pub long : length e ≡ 2 + w + length os
+  pub octet : getD e (uncountedOf w) 0 ≡ o
+  pub rest : drop (headerOf w) e ≡ os
+  pub long : length e ≡ headerOf w + length os
 
 pub header-read : (w n f o : ℕ) (os : List ℕ) → OneOrTwo w → HeaderRead w n o os (f ∷ (field w n ++ o ∷ os))
 header-read w n f o os (inl q) =
@@ -32,24 +33,24 @@ header-read w n f o os (inr q) =
 
 -- octets with room for a header are their header, written, and the rest
 abbrev Whole-header : ℕ → List ℕ → Type 0
-Whole-header w e = getD e 0 0 ∷ (field w (numberAt w e 1) ++ getD e (1 + w) 0 ∷ drop (2 + w) e) ≡ e
+Whole-header w e = getD e 0 0 ∷ (field w (numberAt w e 1) ++ getD e (uncountedOf w) 0 ∷ drop (headerOf w) e) ≡ e
 
-one-octet : (e : List ℕ) → 3 ≤ length e → Whole-header 1 e
+one-octet : (e : List ℕ) → headerOf 1 ≤ length e → Whole-header 1 e
 one-octet [] h = absurd (omega (arith, h))
 one-octet (a ∷ []) h = absurd (omega (arith, h))
 one-octet (a ∷ b ∷ []) h = absurd (omega (arith, h))
 one-octet (a ∷ b ∷ c ∷ os) h = refl
 
-two-octets : (e : List ℕ) → 4 ≤ length e → Octets e → Whole-header 2 e
+two-octets : (e : List ℕ) → headerOf 2 ≤ length e → Octets e → Whole-header 2 e
 two-octets [] h k = absurd (omega (arith, h))
 two-octets (a ∷ []) h k = absurd (omega (arith, h))
 two-octets (a ∷ b ∷ []) h k = absurd (omega (arith, h))
 two-octets (a ∷ b ∷ c ∷ []) h k = absurd (omega (arith, h))
 two-octets (a ∷ b ∷ c ∷ x ∷ os) h k = ap₂ (λ (y z : ℕ). a ∷ y ∷ z ∷ x ∷ os) (high-of b c (k .1 .1 .0)) (low-of b c (k .1 .1 .0))
 
-pub header-back : (w : ℕ) → OneOrTwo w → (e : List ℕ) → 2 + w ≤ length e → Octets e → Whole-header w e
-header-back w (inl q) e h k = subst (λ (v : ℕ). Whole-header v e) (sym q) (one-octet e (subst (λ (v : ℕ). 2 + v ≤ length e) q h))
-header-back w (inr q) e h k = subst (λ (v : ℕ). Whole-header v e) (sym q) (two-octets e (subst (λ (v : ℕ). 2 + v ≤ length e) q h) k)
+pub header-back : (w : ℕ) → OneOrTwo w → (e : List ℕ) → headerOf w ≤ length e → Octets e → Whole-header w e
+header-back w (inl q) e h k = subst (λ (v : ℕ). Whole-header v e) (sym q) (one-octet e (subst (λ (v : ℕ). headerOf v ≤ length e) q h))
+header-back w (inr q) e h k = subst (λ (v : ℕ). Whole-header v e) (sym q) (two-octets e (subst (λ (v : ℕ). headerOf v ≤ length e) q h) k)
 
 -- an element that passes the four tests of its frame
 pub record InFrame (outer : Outer) (e : List ℕ) : Type 0 where

@@ -12,12 +12,9 @@ use Rattle.std.proofs.shelf.Lists.{take-at, drop-at, drop-drop}
 use Rattle.std.proofs.shelf.Tests.{cond-true, le-leb, leb-true}
 use Rattle.catalogue.specs.declared.Direction.{Direction}
 use Rattle.catalogue.specs.Meaning.{Meaning}
-use Rattle.catalogue.specs.Laws.{Lawful}
+use Rattle.catalogue.specs.Laws.{OneOrTwo, Lawful}
 use Rattle.element.specs.Units.{Octets, ElementUnit, unit, field, width, size, written}
 use Rattle.element.specs.Reading.{Field, cutOff, counts, secondOctet, readField, Front, finished, stands, past, contentsOf, front}
-
-abbrev pub OneOrTwo : ℕ → Type 0
-OneOrTwo w = (w ≡ 1) ⊎ (w ≡ 2)
 
 pub high-low : (n : ℕ) → 256 * (n / 256) + n % 256 ≡ n
 high-low n = omega arith

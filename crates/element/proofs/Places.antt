@@ -112,7 +112,7 @@ module _ (m : Meaning) (d : Direction) where
               first = refl;
               next = λ before u after q. omega (arith, place-one-more (header outer) before u);
               last = place-counts (header outer) us ∙ sym long;
-              stands = λ before u after q. standing outer e us [] tiled before u after q ∙ ap (λ (l : List ℕ). written m d u ++ l) (append-nil (allWritten m d after));
+              octets = λ before u after q. standing outer e us [] tiled before u after q ∙ ap (λ (l : List ℕ). written m d u ++ l) (append-nil (allWritten m d after));
               contents = inside outer e us [] tiled;
             }
 

@@ -12,7 +12,7 @@ use Rattle.std.specs.declared.result.Result.the-variants.{Ok, Err}
 use Rattle.catalogue.specs.declared.Direction.{Direction}
 use Rattle.catalogue.specs.Meaning.{Meaning}
 use Rattle.element.specs.declared.reader.ReaderFault.the-variants.{TooShort, WrongFirst, LengthDiffers, TooLong, RunsPast}
-use Rattle.element.specs.Outer.{Outer, options, LawfulOuter, header, numberAt, announced, configuration}
+use Rattle.element.specs.Outer.{Outer, options, LawfulOuter, headerOf, header, numberAt, announced, configuration}
 use Rattle.element.specs.Units.{Octets, field, allWritten, element}
 use Rattle.element.specs.Reading.{Cut, cut, stuckAt, Reading, whole, declined, framed, cutting, readFramed, reads}
 use Rattle.element.specs.RoundTrips.{ReadBack, WrittenBack}
@@ -21,7 +21,7 @@ use Rattle.element.proofs.Frames.{header-read, header-back, InFrame, inner, re
 use Rattle.element.proofs.Cuts.{Small, cutting-read, units-fit, CutBack, cutting-back}
 
 pub options-lawful : LawfulOuter options
-options-lawful = record { one-or-two = inl refl; room = omega arith; span = omega arith }
+options-lawful = record { one-or-two = inl refl; room = refl }
 
 -- an element in its frame is read by its cut
 pub in-frame : (m : Meaning) (d : Direction) (outer : Outer) (e : List ℕ) → InFrame outer e → reads m d outer e ≡ inner m d outer e
@@ -65,7 +65,7 @@ module _ (outer : Outer) (lawful : LawfulOuter outer) (m : Meaning) (d : Directi
       let w = outer .lengthOctets in
       let whole-header = header-back w (lawful .one-or-two) e (omega (arith, lawful .room, f .enough)) octets in
       let again = header-read w (numberAt w e 1) (getD e 0 0) (configuration outer e) rest (lawful .one-or-two) in
-      let long : length e ≡ 2 + w + length rest = sym (ap length whole-header) ∙ again .long in (
+      let long : length e ≡ headerOf w + length rest = sym (ap length whole-header) ∙ again .long in (
         ap (λ (l : List ℕ). outer .first ∷ (field w (1 + length l) ++ configuration outer e ∷ l)) (g .0)
             ∙ ap₂ (λ (a n : ℕ). a ∷ (field w n ++ configuration outer e ∷ rest)) (sym (f .first)) (omega (arith, long, f .counted))
             ∙ whole-header,

@@ -12,10 +12,9 @@ use Rattle.std.proofs.shelf.Lists.{drop-drop}
 use Rattle.std.proofs.shelf.Tests.{leb-true, eqb-true, eqb-false}
 use Rattle.catalogue.specs.declared.Direction.{Direction}
 use Rattle.catalogue.specs.Meaning.{Meaning}
-use Rattle.catalogue.specs.Laws.{Lawful}
+use Rattle.catalogue.specs.Laws.{OneOrTwo, Lawful}
 use Rattle.element.specs.Units.{unit, size}
 use Rattle.element.specs.Reading.{Field, cutOff, counts, secondOctet, readField, Front, finished, stands, past, contentsOf, Cut, onto, front, next, cutting}
-use Rattle.element.proofs.Fronts.{OneOrTwo}
 
 -- the octets after a length field are fewer
 abbrev FieldShorter : List ℕ → Field → Type 0

@@ -23,10 +23,15 @@ summary (whole o us) = Ok (record { configuration = o; units = length us })
 summary (declined f) = Err f
 
 pub record ReadingLaw (m : Meaning) (d : Direction) (outer : Outer) (e : List ℕ) : Type 0 where
+  -- what was written reads back
   pub read-back : ReadBack m d outer
+  -- what was read is written back
   pub written-back : WrittenBack m d outer e
+  -- the units tile the element
   pub places : (o : ℕ) (us : List ElementUnit) → reads m d outer e ≡ whole o us → Places m d outer e us
+  -- a walk hands out the units, each where it stands
   pub walk : WalkLaw m d outer e
+  -- the fault is that of the first refusal that applies
   pub refusals : RefusedInOrder m d outer e
   -- catalogues that answer alike read alike
   pub alike : (n : Meaning) → AnswerAlike m n → reads n d outer e ≡ reads m d outer e

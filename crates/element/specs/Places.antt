@@ -18,6 +18,7 @@ module _ (m : Meaning) (d : Direction) where
   abbrev pub placeAfter : Outer → List ElementUnit → ℕ
   placeAfter outer before = placeFrom (header outer) before
 
+  -- the units us tile the element e; that a walk hands each out at its place is the walk's law
   pub record Places (outer : Outer) (e : List ℕ) (us : List ElementUnit) : Type 0 where
     -- the first unit stands after the header
     pub first : placeAfter outer [] ≡ header outer
@@ -26,6 +27,6 @@ module _ (m : Meaning) (d : Direction) where
     -- and for the last the element's length
     pub last : placeAfter outer us ≡ length e
     -- from the unit's place on the octets are the unit's and those of the units after it
-    pub stands : (before : List ElementUnit) (u : ElementUnit) (after : List ElementUnit) → us ≡ before ++ u ∷ after → drop (placeAfter outer before) e ≡ written m d u ++ allWritten m d after
+    pub octets : (before : List ElementUnit) (u : ElementUnit) (after : List ElementUnit) → us ≡ before ++ u ∷ after → drop (placeAfter outer before) e ≡ written m d u ++ allWritten m d after
     -- the octets from the contents' place are the contents
     pub contents : (before : List ElementUnit) (u : ElementUnit) (after : List ElementUnit) → us ≡ before ++ u ∷ after → take (length (u .contents)) (drop (placeAfter outer before + 2 + width m d u) e) ≡ u .contents

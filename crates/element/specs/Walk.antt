@@ -56,12 +56,12 @@ abbrev pub behindHeader : Outer → List ℕ → Position
 behindHeader outer e = record { octets = e; place = header outer }
 
 -- a walk begins there, if the element passes the tests of its frame
-abbrev pub startBy : Outer → List ℕ → Result ℕ ReaderFault → Result Position ReaderFault
-startBy outer e (Err f) = Err f
-startBy outer e (Ok o) = Ok (behindHeader outer e)
+abbrev pub openingBy : Outer → List ℕ → Result ℕ ReaderFault → Result Position ReaderFault
+openingBy outer e (Err f) = Err f
+openingBy outer e (Ok o) = Ok (behindHeader outer e)
 
-abbrev pub start : Outer → List ℕ → Result Position ReaderFault
-start outer e = startBy outer e (frame outer e)
+abbrev pub opening : Outer → List ℕ → Result Position ReaderFault
+opening outer e = openingBy outer e (frame outer e)
 
 -- the place behind the unit found at the place p; where none was found, the place stays
 abbrev pub placeBehind : ℕ → Found → ℕ

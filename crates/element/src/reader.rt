@@ -81,7 +81,7 @@ impl ReaderFault {
 impl<'a> Cursor<'a> {
     /// Stands before the first unit of an element, or gives the fault of the element's frame.
     pub fn open(element: &'a [u8]) -> Result<Cursor<'a>, ReaderFault>
-        ensures answer { λ r. ⌜ walk.opened r ≡ walk.start options (now (element .entry)) ⌝ }
+        ensures answer { λ r. ⌜ walk.opened r ≡ walk.opening options (now (element .entry)) ⌝ }
     {
         let _configuration = frame(element)?;
         Ok(before_units(element))
@@ -220,12 +220,12 @@ fn number_of(high: u8, low: u8) -> u16
 }
 
 // The number in a length field of one or two octets, high octet first, at the front of octets.
-fn length_field(width: u8, octets: &[u8]) -> Option<u16>
+fn length_field(width: u8, octets: &[u8]) -> Option<u32>
     ensures answer { λ r. ⌜ heads.fieldAs r width (now (octets .entry)) ≡ reading.readField width (now (octets .entry)) ⌝ }
 {
     match octets {
-        [number, ..] if width == 1 => Some(*number as u16),
-        [high, low, ..] if width != 1 => Some(number_of(*high, *low)),
+        [number, ..] if width == 1 => Some(*number as u32),
+        [high, low, ..] if width != 1 => Some(number_of(*high, *low) as u32),
         _ => None,
     }
 }

@@ -60,7 +60,7 @@ fn frames() -> Result<(), Fail> {
 
 #[test]
 fn cut_units() -> Result<(), Fail> {
-    // a cut identifier, a cut length field, contents one octet short, and each behind a whole unit
+    // a cut identifier, a cut length field, contents one octet short; then each behind a whole unit
     check_eq(
         read_long(&[0x27, 0x02, 0x80, 0x00]),
         Err(ReaderFault::RunsPast(3)),
@@ -78,6 +78,10 @@ fn cut_units() -> Result<(), Fail> {
         Err(ReaderFault::RunsPast(6)),
     )?;
     check_eq(
+        read_long(&[0x27, 0x06, 0x80, 0x00, 0x02, 0x00, 0x00, 0x10]),
+        Err(ReaderFault::RunsPast(6)),
+    )?;
+    check_eq(
         read_long(&[0x27, 0x07, 0x80, 0x00, 0x02, 0x00, 0x00, 0x10, 0x01]),
         Err(ReaderFault::RunsPast(6)),
     )
@@ -89,12 +93,14 @@ fn sizes() -> Result<(), Fail> {
     let mut octets = [0u8; 258];
     octets[0] = 0x27;
     octets[1] = 251;
+    octets[2] = 0x80;
     octets[5] = 247;
-    check_eq(read_long(&octets[0..253]), whole(0, 1))?;
+    check_eq(read_long(&octets[0..253]), whole(0x80, 1))?;
     octets[5] = 246;
     check_eq(read_long(&octets[0..253]), Err(ReaderFault::RunsPast(252)))?;
     octets[5] = 248;
     check_eq(read_long(&octets[0..253]), Err(ReaderFault::RunsPast(3)))?;
+    octets[5] = 0;
     octets[1] = 252;
     check_eq(read_long(&octets[0..254]), Err(ReaderFault::TooLong(254)))?;
     octets[1] = 255;

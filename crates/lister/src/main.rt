@@ -6,7 +6,7 @@ use listing::list;
 use std::io;
 use std::io::Read;
 
-/// Of a longer input only so many octets are read.
+/// The most octets that are read.
 const ROOM: usize = 300;
 
 fn main(rt: LibcRuntime) -> io::Result<()> {
@@ -17,13 +17,13 @@ fn main(rt: LibcRuntime) -> io::Result<()> {
 }
 
 // Reads standard input into the buffer until it is full or the input ends, and answers how many octets came.
-// Each turn but the last brings an octet or more, so there are no more turns than octets.
+// Reads may come in pieces: each turn brings an octet or more, or is the last, so as many turns as octets are enough.
 fn fill(rt: &LibcRuntime, buffer: &mut [u8]) -> io::Result<usize>
     ensures answer { λ r. ⌜ made r (λ n. n ≤ length (now (buffer .entry))) ⌝ }
 {
     let mut stdin = rt.stdin();
     let mut filled = 0;
-    while filled < buffer.len() {
+    for _ in 0..buffer.len() {
         let got = stdin.read(&mut buffer[filled..])?;
         if got == 0 {
             break;

@@ -1,7 +1,7 @@
 -- A listing, line by line: what stands in the text so far, and the lines to come.
 use mathlib.Core.Path.{_≡_, refl, sym, ap, ap₂, _∙_}
 use mathlib.Core.List.{List, [], _∷_, _++_, append-assoc, append-nil}
-use Prim.Native.Nat.{ℕ, _+_}
+use Prim.Native.Nat.{ℕ}
 use native.Mathlib.Omega.{arith}
 use Rattle.catalogue.specs.declared.Direction.{Direction}
 use Rattle.catalogue.specs.Meaning.{Meaning}

@@ -8,4 +8,6 @@ pub returns-in-Listed : need.returns-in-Listed
 returns-in-Listed c =
     let d = c .args .direction in
     let i = c .args .identifier in
-    ap (λ (e : Entry). orElse e (added d i .entry)) (c .in-Listed .ensures tt) ∙ sym (long-is d i)
+    record {
+      answer = ap (λ (e : Entry). orElse e (added d i .entry)) (c .in-Listed .ensures tt .answer) ∙ sym (long-is d i);
+    }

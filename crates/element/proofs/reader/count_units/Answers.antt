@@ -8,7 +8,7 @@ use Rattle.std.proofs.shelf.Results.{err-from-errBy}
 use Rattle.catalogue.specs.Meaning.{Meaning}
 use Rattle.element.specs.declared.reader.ReaderFault.{ReaderFault}
 use Rattle.element.specs.Units.{unit}
-use Rattle.element.specs.Outer.{options}
+use Rattle.element.specs.Outer.{options, header}
 use Rattle.element.specs.Walk.{Position, position, placedUnit, cutFrom, behindHeader}
 use Rattle.element.proofs.Walk.{OneMore, turned}
 use Rattle.element.proofs.Laws.{summaryWith, summary-none, summary-more}
@@ -21,7 +21,7 @@ loop-units-holds g c =
     let at = c .before-units-cursor .ensures .answer in
     let e = c .args .element .now in (
       ap (λ (s : Position). summaryWith (c .args .configuration) 0 (cutFrom m (c .args .direction) s)) at,
-      subst (λ (s : Position). 0 + length (drop (s .place) (s .octets)) ≤ length e) (sym at) (omega (arith, length-drop 3 e)),
+      subst (λ (s : Position). 0 + length (drop (s .place) (s .octets)) ≤ length e) (sym at) (omega (arith, length-drop (header options) e)),
     )
 
 pub returns-in-Break-next-unit : need.returns-in-Break-next-unit

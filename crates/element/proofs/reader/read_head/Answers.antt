@@ -9,11 +9,12 @@ use lib.Dec.{eqb}
 use borrow.Author.Needs.{needs}
 use Rattle.std.proofs.shelf.Lists.{take-rest}
 use Rattle.catalogue.specs.declared.Answer.{Answer}
+use Rattle.catalogue.specs.Laws.{OneOrTwo}
 use Rattle.element.specs.Reading.{counts, readField}
 use Rattle.element.proofs.Fronts.{front-found}
 use Rattle.element.proofs.reader.read_head.Needs as need
 
-wide : (w : ℕ) → (w ≡ 1) ⊎ (w ≡ 2) → cond (eqb w 1) 1 2 ≡ w
+wide : (w : ℕ) → OneOrTwo w → cond (eqb w 1) 1 2 ≡ w
 wide w (inl e) = ap (λ (k : ℕ). cond (eqb k 1) 1 2) e ∙ sym e
 wide w (inr e) = ap (λ (k : ℕ). cond (eqb k 1) 1 2) e ∙ sym e
 
@@ -26,7 +27,7 @@ returns-in-Some g c =
     let w = c .answer-width .result .width in
     let n = c .in-Some .length in
     let is : w ≡ m d i .width = ap (λ (a : Answer). a .width) (c .answer-width .ensures .answer) in
-    let two : (w ≡ 1) ⊎ (w ≡ 2) = subst (λ (k : ℕ). (k ≡ 1) ⊎ (k ≡ 2)) (sym is) (g .C·Catalogue·met .lawful (c .args .catalogue .now) .width d i) in
+    let two : OneOrTwo w = subst OneOrTwo (sym is) (g .C·Catalogue·met .lawful (c .args .catalogue .now) .width d i) in
     let field = subst (λ (l : List ℕ). counts n (drop (cond (eqb w 1) 1 2) l) ≡ readField w l) (take-rest os 2) (c .in-Some .ensures tt .answer) in
     let enough : 2 ≤ length os = search needs in
     record {
