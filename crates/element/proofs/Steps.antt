@@ -16,66 +16,6 @@ use Rattle.catalogue.specs.Laws.{OneOrTwo, Lawful}
 use Rattle.element.specs.Units.{unit, size}
 use Rattle.element.specs.Reading.{Field, cutOff, counts, secondOctet, readField, Front, finished, stands, past, contentsOf, Cut, onto, front, next, cutting}
 
--- the octets after a length field are fewer
-abbrev FieldShorter : List ℕ → Field → Type 0
-FieldShorter os cutOff = Unit {0}
-FieldShorter os (counts n rest) = length rest < length os
-
-second-shorter : (a : ℕ) (os : List ℕ) → FieldShorter (a ∷ os) (secondOctet a os)
-second-shorter a [] = tt
-second-shorter a (b ∷ os) = omega arith
-
-field-shorter : (w : ℕ) (os : List ℕ) → FieldShorter os (readField w os)
-field-shorter w [] = tt
-field-shorter w (a ∷ os) = go (eqb w 1)
-  where
-    go : (t : Bool) → FieldShorter (a ∷ os) (cond t (counts a os) (secondOctet a os))
-    go true = omega arith
-    go false = second-shorter a os
-
--- the octets after a unit are at least three fewer
-abbrev pub FrontShorter : List ℕ → Front → Type 0
-FrontShorter os finished = Unit {0}
-FrontShorter os past = Unit {0}
-FrontShorter os (stands u rest) = length rest + 3 ≤ length os
-
-contents-shorter : (i a b : ℕ) (os : List ℕ) (f : Field) → FieldShorter os f → FrontShorter (a ∷ b ∷ os) (contentsOf i f)
-contents-shorter i a b os cutOff h = tt
-contents-shorter i a b os (counts n r) h = go (leb n (length r))
-  where
-    go : (t : Bool) → FrontShorter (a ∷ b ∷ os) (cond t (stands (unit i (take n r)) (drop n r)) past)
-    go true = omega (arith, length-drop n r, h)
-    go false = tt
-
-module _ (m : Meaning) (d : Direction) where
-  pub front-shorter : (os : List ℕ) → FrontShorter os (front m d os)
-  front-shorter [] = tt
-  front-shorter (a ∷ []) = tt
-  front-shorter (a ∷ b ∷ os) =
-      contents-shorter (256 * a + b) a b os (readField (m d (256 * a + b) .width) os) (field-shorter (m d (256 * a + b) .width) os)
-
-  next-like : (os : List ℕ) (f : Front) → FrontShorter os f → (g h : ℕ → List ℕ → Cut) → ((q : ℕ) (rest : List ℕ) → length rest < length os → g q rest ≡ h q rest) → (p : ℕ) → next m d f g p ≡ next m d f h p
-  next-like os finished z g h e p = refl
-  next-like os past z g h e p = refl
-  next-like os (stands u rest) z g h e p = ap (onto u) (e (p + size m d u) rest (omega (arith, z)))
-
-  -- enough fuel is enough
-  cutting-fuel : (k l p : ℕ) (os : List ℕ) → length os ≤ k → length os ≤ l → cutting m d k p os ≡ cutting m d l p os
-  cutting-fuel zero zero p os a b = refl
-  cutting-fuel zero (suc l) p [] a b = refl
-  cutting-fuel zero (suc l) p (x ∷ os) a b = absurd (not-suc-le-zero a)
-  cutting-fuel (suc k) zero p [] a b = refl
-  cutting-fuel (suc k) zero p (x ∷ os) a b = absurd (not-suc-le-zero b)
-  cutting-fuel (suc k) (suc l) p os a b =
-      next-like os (front m d os) (front-shorter os) (cutting m d k) (cutting m d l) (λ q rest less. cutting-fuel k l q rest (omega arith) (omega arith)) p
-
-  -- one unit off the front, and on with the rest
-  pub cut-step : (p : ℕ) (os : List ℕ) → cutting m d (length os) p os ≡ next m d (front m d os) (λ q rest. cutting m d (length rest) q rest) p
-  cut-step p [] = refl
-  cut-step p (x ∷ os) =
-      next-like (x ∷ os) (front m d (x ∷ os)) (front-shorter (x ∷ os)) (cutting m d (length os)) (λ q rest. cutting m d (length rest) q rest)
-      (λ q rest less. cutting-fuel (length os) (length rest) q rest (omega arith) (omega arith)) p
-
 -- under a lawful catalogue a unit takes as many octets as its size says, and the rest are left
 abbrev FieldSized : ℕ → List ℕ → Field → Type 0
 FieldSized w os cutOff = Unit {0}
@@ -116,3 +56,25 @@ module _ (m : Meaning) (law : Lawful m) (d : Direction) where
   front-sized (a ∷ []) = tt
   front-sized (a ∷ b ∷ os) =
       contents-sized a b os (readField (m d (256 * a + b) .width) os) (field-sized (m d (256 * a + b) .width) os (law .width d (256 * a + b)))
+
+  next-like : (os : List ℕ) (f : Front) → FrontSized os f → (g h : ℕ → List ℕ → Cut) → ((q : ℕ) (rest : List ℕ) → length rest < length os → g q rest ≡ h q rest) → (p : ℕ) → next m d f g p ≡ next m d f h p
+  next-like os finished z g h e p = refl
+  next-like os past z g h e p = refl
+  next-like os (stands u rest) z g h e p = ap (onto u) (e (p + size m d u) rest (omega (arith, z .0)))
+
+  -- enough fuel is enough
+  cutting-fuel : (k l p : ℕ) (os : List ℕ) → length os ≤ k → length os ≤ l → cutting m d k p os ≡ cutting m d l p os
+  cutting-fuel zero zero p os a b = refl
+  cutting-fuel zero (suc l) p [] a b = refl
+  cutting-fuel zero (suc l) p (x ∷ os) a b = absurd (not-suc-le-zero a)
+  cutting-fuel (suc k) zero p [] a b = refl
+  cutting-fuel (suc k) zero p (x ∷ os) a b = absurd (not-suc-le-zero b)
+  cutting-fuel (suc k) (suc l) p os a b =
+      next-like os (front m d os) (front-sized os) (cutting m d k) (cutting m d l) (λ q rest less. cutting-fuel k l q rest (omega arith) (omega arith)) p
+
+  -- one unit off the front, and on with the rest
+  pub cut-step : (p : ℕ) (os : List ℕ) → cutting m d (length os) p os ≡ next m d (front m d os) (λ q rest. cutting m d (length rest) q rest) p
+  cut-step p [] = refl
+  cut-step p (x ∷ os) =
+      next-like (x ∷ os) (front m d (x ∷ os)) (front-sized (x ∷ os)) (cutting m d (length os)) (λ q rest. cutting m d (length rest) q rest)
+      (λ q rest less. cutting-fuel (length os) (length rest) q rest (omega arith) (omega arith)) p

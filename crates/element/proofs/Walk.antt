@@ -83,7 +83,7 @@ module _ (m : Meaning) (d : Direction) (s : Position) where
     onward given t q r =
         let os = drop (s .place) (s .octets) in
         subst (λ (f : Found). Onward f t) (sym q)
-        (subst (λ (p : Position). Onward (unitAt m d s) p) (sym r) (onward-by (front m d os) (front-sized m law d os) (cut-step m d (s .place) os)))
+        (subst (λ (p : Position). Onward (unitAt m d s) p) (sym r) (onward-by (front m d os) (front-sized m law d os) (cut-step m law d (s .place) os)))
 
     -- the same of what a call of the cursor returned, once that is known to be v
     pub turned : (r v : Result (Option PlacedUnit) ReaderFault) (t : Position) → seen r ≡ unitAt m d s → t ≡ stepFrom m d s → r ≡ v → Onward (seen v) t
