@@ -1,5 +1,7 @@
 // What a catalogue answers for each identifier of a protocol configuration options element, and the shape that all
 // refusals share. Every other crate builds on these types.
+#![tactic(auto)]
+
 ghost use Rattle.std.specs.Prelude.{◌≡◌};
 ghost use Rattle.catalogue.specs.Meaning.{Meaning};
 ghost use Rattle.catalogue.specs.Laws.{Lawful};

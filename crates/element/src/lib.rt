@@ -1,4 +1,6 @@
 // Reads a protocol configuration options element: frames it, and cuts it into units under any catalogue.
+#![tactic(auto)]
+
 mod outer;
 mod reader;
 #[cfg(test)]

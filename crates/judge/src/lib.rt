@@ -1,4 +1,6 @@
 // Judges the units of an element: the rules on contents, the verdicts, and one row a unit.
+#![tactic(auto)]
+
 mod judging;
 mod rooms;
 mod rules;

@@ -1,4 +1,6 @@
 // The text that the lister prints: one function for each line, and one for the whole listing.
+#![tactic(auto)]
+
 mod lines;
 #[cfg(test)]
 mod tests;
