@@ -86,8 +86,8 @@ impl<'a> Cursor<'a> {
         catalogue: &C,
         direction: Direction,
     ) -> Result<Option<PlacedUnit<'a>>, ReaderFault>
-        ensures answer { walk.seen result ≡ walk.unit_at (meaning catalogue.now) direction (walk.position self.old) }
-        ensures state { walk.position self.new ≡ walk.step_from (meaning catalogue.now) direction (walk.position self.old) }
+        ensures answer { walk.seen result ≡ walk.unit_at (C.meaning catalogue.now) direction (walk.position self.old) }
+        ensures state { walk.position self.new ≡ walk.step_from (C.meaning catalogue.now) direction (walk.position self.old) }
     {
         let found = unit_at(catalogue, direction, self.octets, self.place)?;
         if let Some(unit) = found {
@@ -103,8 +103,8 @@ pub fn read<C: Catalogue>(
     direction: Direction,
     element: &[u8],
 ) -> Result<Whole, ReaderFault>
-    ensures answer { result ≡ laws.summary (reading.reads (meaning catalogue.now) direction options element.now) }
-    ensures law { laws.ReadingLaw (meaning catalogue.now) direction options element.now }
+    ensures answer { result ≡ laws.summary (reading.reads (C.meaning catalogue.now) direction options element.now) }
+    ensures law { laws.ReadingLaw (C.meaning catalogue.now) direction options element.now }
 {
     reading_law(catalogue, direction, element);
     let configuration = frame(element)?;
@@ -114,7 +114,7 @@ pub fn read<C: Catalogue>(
 // The law of reading, which `read` passes on. There is nothing to compute: a look at the slice shows the checker that its
 // elements are octets.
 fn reading_law<C: Catalogue>(catalogue: &C, direction: Direction, element: &[u8])
-    ensures law { laws.ReadingLaw (meaning catalogue.now) direction options element.now }
+    ensures law { laws.ReadingLaw (C.meaning catalogue.now) direction options element.now }
 {
     let _first = element.first();
 }
@@ -136,7 +136,7 @@ fn unit_at<'a, C: Catalogue>(
     octets: &'a [u8],
     place: usize,
 ) -> Result<Option<PlacedUnit<'a>>, ReaderFault>
-    ensures answer { walk.seen result ≡ walk.unit_at (meaning catalogue.now) direction (record { octets = octets.entry.now; place = place }) }
+    ensures answer { walk.seen result ≡ walk.unit_at (C.meaning catalogue.now) direction (record { octets = octets.entry.now; place = place }) }
     ensures within { walk.Ends (walk.seen result) (length octets.now) }
 {
     if place >= octets.len() {
@@ -162,7 +162,7 @@ fn count_units<C: Catalogue>(
     element: &[u8],
     configuration: u8,
 ) -> Result<Whole, ReaderFault>
-    ensures answer { result ≡ laws.summary (reading.framed configuration (walk.cut_from (meaning catalogue.now) direction (walk.behind_header options element.now))) }
+    ensures answer { result ≡ laws.summary (reading.framed configuration (walk.cut_from (C.meaning catalogue.now) direction (walk.behind_header options element.now))) }
 {
     let mut cursor = before_units(element);
     let mut units = 0;
@@ -225,8 +225,8 @@ fn length_field(width: u8, octets: &[u8]) -> Option<u32>
 // The head of the unit at the front of octets, or none if the unit runs past their end.
 fn read_head<C: Catalogue>(catalogue: &C, direction: Direction, octets: &[u8]) -> Option<Head>
     requires { 0 < length octets.now }
-    ensures front { heads.front_as result octets.now ≡ reading.front (meaning catalogue.now) direction octets.now }
-    ensures within { heads.Within (meaning catalogue.now) direction result octets.now }
+    ensures front { heads.front_as result octets.now ≡ reading.front (C.meaning catalogue.now) direction octets.now }
+    ensures within { heads.Within (C.meaning catalogue.now) direction result octets.now }
 {
     match octets {
         [high, low, tail @ ..] => {

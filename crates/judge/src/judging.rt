@@ -83,9 +83,9 @@ pub fn judge<C: Catalogue>(
     element: &[u8],
     rows: &mut [JudgedUnit],
 ) -> Result<usize, JudgeFault>
-    ensures answer { result ≡ judging.answer (meaning catalogue.now) direction options element.now rows.old }
-    ensures rows { rows.new ≡ judging.rows_after (meaning catalogue.now) direction options element.now rows.old }
-    ensures law { laws.JudgingLaw (meaning catalogue.now) direction options element.now rows.old }
+    ensures answer { result ≡ judging.answer (C.meaning catalogue.now) direction options element.now rows.old }
+    ensures rows { rows.new ≡ judging.rows_after (C.meaning catalogue.now) direction options element.now rows.old }
+    ensures law { laws.JudgingLaw (C.meaning catalogue.now) direction options element.now rows.old }
     ensures cases { cases.WorkedCases }
 {
     judging_law(catalogue, direction, element, rows);
@@ -106,9 +106,9 @@ fn write_rows<C: Catalogue>(
     whole: Whole,
     rows: &mut [JudgedUnit],
 )
-    requires read { Ok whole ≡ summary (reads (meaning catalogue.now) direction options element.now) }
+    requires read { Ok whole ≡ summary (reads (C.meaning catalogue.now) direction options element.now) }
     requires room { whole.units ≤ length rows.old }
-    ensures rows { rows.new ≡ judging.rows_of (meaning catalogue.now) direction options (units_of (reads (meaning catalogue.now) direction options element.now)) ++ drop whole.units rows.old }
+    ensures rows { rows.new ≡ judging.rows_of (C.meaning catalogue.now) direction options (units_of (reads (C.meaning catalogue.now) direction options element.now)) ++ drop whole.units rows.old }
 {
     let Ok(first) = Cursor::open(element) else {
         return;
@@ -133,9 +133,9 @@ fn row_of<C: Catalogue>(
     unit: PlacedUnit<'_>,
     room: &mut Room,
 ) -> JudgedUnit
-    requires whole { rooms.AllUnits (walk.cut_from (meaning catalogue.now) direction (walk.position first)) }
-    ensures answer { result ≡ judging.judged_unit unit.entry.place unit.entry.identifier unit.entry.start (length unit.entry.contents.now) (rooms.verdict_by (meaning catalogue.now) direction (rooms.met_from (meaning catalogue.now) direction (walk.position first.entry)) room.old.left (rooms.unit_of unit.entry)) }
-    ensures room { room.new.left ≡ rooms.left_after (meaning catalogue.now) direction (rooms.met_from (meaning catalogue.now) direction (walk.position first.entry)) room.old.left (rooms.unit_of unit.entry) }
+    requires whole { rooms.AllUnits (walk.cut_from (C.meaning catalogue.now) direction (walk.position first)) }
+    ensures answer { result ≡ judging.judged_unit unit.entry.place unit.entry.identifier unit.entry.start (length unit.entry.contents.now) (rooms.verdict_by (C.meaning catalogue.now) direction (rooms.met_from (C.meaning catalogue.now) direction (walk.position first.entry)) room.old.left (rooms.unit_of unit.entry)) }
+    ensures room { room.new.left ≡ rooms.left_after (C.meaning catalogue.now) direction (rooms.met_from (C.meaning catalogue.now) direction (walk.position first.entry)) room.old.left (rooms.unit_of unit.entry) }
 {
     let verdict = judge_unit(catalogue, direction, first, unit, room);
     JudgedUnit {
@@ -160,7 +160,7 @@ fn judging_law<C: Catalogue>(
     element: &[u8],
     rows: &[JudgedUnit],
 )
-    ensures law { laws.JudgingLaw (meaning catalogue.now) direction options element.now rows.now }
+    ensures law { laws.JudgingLaw (C.meaning catalogue.now) direction options element.now rows.now }
 {
     let _first = element.first();
 }

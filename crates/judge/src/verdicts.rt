@@ -86,7 +86,7 @@ fn passes_as<C: Catalogue>(
     unit: PlacedUnit<'_>,
     identifier: u16,
 ) -> bool
-    ensures answer { result ≡ verdicts.passes_as (meaning catalogue.now) direction (rooms.unit_of unit.entry) identifier }
+    ensures answer { result ≡ verdicts.passes_as (C.meaning catalogue.now) direction (rooms.unit_of unit.entry) identifier }
 {
     unit.identifier == identifier
         && checks_one_to_three(catalogue.answer(direction, identifier).entry, unit.contents)
@@ -100,8 +100,8 @@ fn find<'a, C: Catalogue>(
     first: Cursor<'a>,
     identifier: u16,
 ) -> Option<PlacedUnit<'a>>
-    requires whole { rooms.AllUnits (walk.cut_from (meaning catalogue.now) direction (walk.position first)) }
-    ensures answer { rooms.is_found result ≡ verdicts.passes (meaning catalogue.now) direction (rooms.cut_units (walk.cut_from (meaning catalogue.now) direction (walk.position first.entry))) identifier }
+    requires whole { rooms.AllUnits (walk.cut_from (C.meaning catalogue.now) direction (walk.position first)) }
+    ensures answer { rooms.is_found result ≡ verdicts.passes (C.meaning catalogue.now) direction (rooms.cut_units (walk.cut_from (C.meaning catalogue.now) direction (walk.position first.entry))) identifier }
 {
     let mut cursor = first;
     while let Ok(next) = cursor.next_unit(catalogue, direction) {
@@ -123,8 +123,8 @@ fn has_companion<C: Catalogue>(
     first: Cursor<'_>,
     unit: PlacedUnit<'_>,
 ) -> bool
-    requires whole { rooms.AllUnits (walk.cut_from (meaning catalogue.now) direction (walk.position first)) }
-    ensures answer { result ≡ rooms.met_from (meaning catalogue.now) direction (walk.position first.entry) unit.entry.identifier }
+    requires whole { rooms.AllUnits (walk.cut_from (C.meaning catalogue.now) direction (walk.position first)) }
+    ensures answer { result ≡ rooms.met_from (C.meaning catalogue.now) direction (walk.position first.entry) unit.entry.identifier }
 {
     let Entry::Listed(row) = catalogue.answer(direction, unit.identifier).entry else {
         return true;
@@ -148,9 +148,9 @@ pub(crate) fn judge_unit<C: Catalogue>(
     unit: PlacedUnit<'_>,
     room: &mut Room,
 ) -> Verdict
-    requires whole { rooms.AllUnits (walk.cut_from (meaning catalogue.now) direction (walk.position first)) }
-    ensures answer { result ≡ rooms.verdict_by (meaning catalogue.now) direction (rooms.met_from (meaning catalogue.now) direction (walk.position first.entry)) room.old.left (rooms.unit_of unit.entry) }
-    ensures room { room.new.left ≡ rooms.left_after (meaning catalogue.now) direction (rooms.met_from (meaning catalogue.now) direction (walk.position first.entry)) room.old.left (rooms.unit_of unit.entry) }
+    requires whole { rooms.AllUnits (walk.cut_from (C.meaning catalogue.now) direction (walk.position first)) }
+    ensures answer { result ≡ rooms.verdict_by (C.meaning catalogue.now) direction (rooms.met_from (C.meaning catalogue.now) direction (walk.position first.entry)) room.old.left (rooms.unit_of unit.entry) }
+    ensures room { room.new.left ≡ rooms.left_after (C.meaning catalogue.now) direction (rooms.met_from (C.meaning catalogue.now) direction (walk.position first.entry)) room.old.left (rooms.unit_of unit.entry) }
 {
     let entry = catalogue.answer(direction, unit.identifier).entry;
     let slot = slot_of(entry);

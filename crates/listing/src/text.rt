@@ -62,7 +62,7 @@ fn push_units<C: Catalogue>(
     direction: Direction,
     mut cursor: Cursor<'_>,
 ) -> Result<(), AllocError>
-    ensures text { OnOk result ((us : List ElementUnit) → cut_from (meaning catalogue.now) direction (position cursor.entry) ≡ cut us → string_bytes text.new ≡ string_bytes text.old ++ listing.unit_lines (meaning catalogue.now) direction cursor.entry.place us) }
+    ensures text { OnOk result ((us : List ElementUnit) → cut_from (C.meaning catalogue.now) direction (position cursor.entry) ≡ cut us → string_bytes text.new ≡ string_bytes text.old ++ listing.unit_lines (C.meaning catalogue.now) direction cursor.entry.place us) }
 {
     while let Ok(next) = cursor.next_unit(catalogue, direction) {
         let Some(unit) = next else {

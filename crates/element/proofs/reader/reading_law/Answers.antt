@@ -7,4 +7,4 @@ use Rattle.element.proofs.reader.reading_law.Goals as goal
 pub returns : goal.returns
 returns g c =
     let e = c.args.element.now in
-    record { law = reading_law options options_lawful _ (g.met.C.Catalogue.lawful c.args.catalogue.now) c.args.direction e (slice_octets e c.type-inv.element) }
+    record { law = reading_law options options_lawful _ (g.met.C.Catalogue.lawful c.args.catalogue.now) c.args.direction e (slice_octets e c.type_inv.element) }

@@ -10,13 +10,13 @@ pub returns-then-place-octets : goal.returns-then-place-octets
 returns-then-place-octets g c =
     record { answer = at_end (g.C.Catalogue.meaning c.args.catalogue.now) c.args.direction c.args.octets.now c.args.place c.if-place-octets.true; within = tt }
 
-pub returns-in-default : goal.returns-in-default
-returns-in-default g c =
+pub returns-in_default : goal.returns-in_default
+returns-in_default g c =
     let m : Meaning = g.C.Catalogue.meaning c.args.catalogue.now in
     let d = c.args.direction in
     let e = c.args.octets.now in
     let p = c.args.place in
-    record { answer = at_fault m d e p (subst (λ (os : List ℕ). past ≡ front m d os) (take_rest e p) c.in-default.ensures.front); within = tt }
+    record { answer = at_fault m d e p (subst (λ (os : List ℕ). past ≡ front m d os) (take_rest e p) c.in_default.ensures.front); within = tt }
 
 pub returns : goal.returns
 returns g c =

@@ -9,6 +9,6 @@ returns g c =
     let e = c.args.element.now in
     record {
       law =
-          judging_law options options_lawful (g.C.Catalogue.meaning c.args.catalogue.now) (g.met.C.Catalogue.lawful c.args.catalogue.now) c.args.direction e (slice_octets e c.type-inv.element)
+          judging_law options options_lawful (g.C.Catalogue.meaning c.args.catalogue.now) (g.met.C.Catalogue.lawful c.args.catalogue.now) c.args.direction e (slice_octets e c.type_inv.element)
           c.args.rows.now;
     }

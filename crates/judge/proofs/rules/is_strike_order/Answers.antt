@@ -7,4 +7,4 @@ pub returns-then-third-code : goal.returns-then-third-code
 returns-then-third-code c =
     let os = c.args.contents.now in
     let opens : opens_with c.args.code os ≡ true = search rules in
-    record { answer = c.points-to-trim.ensures.answer ∙ rest_points os (omega arith) ∙ ap (λ (b : Bool). b && (leb 2 (back os) && leb 3 (trim_place os))) (sym opens) }
+    record { answer = c.points_to_trim.ensures.answer ∙ rest_points os (omega arith) ∙ ap (λ (b : Bool). b && (leb 2 (back os) && leb 3 (trim_place os))) (sym opens) }

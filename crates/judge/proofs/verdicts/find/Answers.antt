@@ -10,9 +10,9 @@ pub loop-next-init : goal.loop-next-init
 loop-next-init g c = seeking_none (g.C.Catalogue.meaning c.args.catalogue.now) c.args.direction c.args.identifier (position c.args.first) c.requires.whole
 
 -- what a turn of the loop finds
-in_turn : (g : given.Over) (c : goal.Else-passes-as g) → OneMore (g.C.Catalogue.meaning c.args.catalogue.now) c.args.direction (position c.loop-next.cursor) (placed_unit c.in-Some.unit) (position c.next-unit.new.self)
+in_turn : (g : given.Over) (c : goal.Else-passes_as g) → OneMore (g.C.Catalogue.meaning c.args.catalogue.now) c.args.direction (position c.loop-next.cursor) (placed_unit c.in-Some.unit) (position c.next_unit.new.self)
 in_turn g c =
-    turned (g.C.Catalogue.meaning c.args.catalogue.now) c.args.direction (position c.loop-next.cursor) (g.met.C.Catalogue.lawful c.args.catalogue.now) _ (Ok (Some c.in-Some.unit)) _ c.next-unit.ensures.answer c.next-unit.ensures.state
+    turned (g.C.Catalogue.meaning c.args.catalogue.now) c.args.direction (position c.loop-next.cursor) (g.met.C.Catalogue.lawful c.args.catalogue.now) _ (Ok (Some c.in-Some.unit)) _ c.next_unit.ensures.answer c.next_unit.ensures.state
     (c.in-Ok.is ∙ ap (λ o. Ok o) c.in-Some.is)
 
 pub loop-next-smaller : goal.loop-next-smaller
@@ -21,4 +21,4 @@ loop-next-smaller g c = (in_turn g c).less
 pub loop-next-preserved : goal.loop-next-preserved
 loop-next-preserved g c =
     let m : Meaning = g.C.Catalogue.meaning c.args.catalogue.now in
-    seeking_more m c.args.direction c.args.identifier (position c.args.first) (position c.loop-next.cursor) c.loop-next.invariant (placed_unit c.in-Some.unit) (position c.next-unit.new.self) (in_turn g c) (sym c.if-passes-as.false ∙ c.passes-as.ensures.answer)
+    seeking_more m c.args.direction c.args.identifier (position c.args.first) (position c.loop-next.cursor) c.loop-next.invariant (placed_unit c.in-Some.unit) (position c.next_unit.new.self) (in_turn g c) (sym c.if-passes_as.false ∙ c.passes_as.ensures.answer)

@@ -7,12 +7,12 @@ use Rattle.listing.proofs.text.list_whole.Goals as goal
 
 pub returns : goal.returns
 returns c =
-    let head : string_bytes c.push-line.new.text ≡ ended heading =
-    c.in-ok-push-line.ensures.text ∙ ap₂ (λ (a b : List ℕ). a ++ ended b) c.new-text.ensures.bytes c.heading.ensures.answer in
+    let head : string_bytes c.push_line.new.text ≡ ended heading =
+    c.in_ok-push_line.ensures.text ∙ ap₂ (λ (a b : List ℕ). a ++ ended b) c.new-text.ensures.bytes c.heading.ensures.answer in
     record {
       answer = λ us q.
           let lines = unit_lines long ToModem c.args.cursor.place us in
-          c.in-ok-push-line-2.ensures.text
-          ∙ ap₂ (λ (a b : List ℕ). a ++ ended b) (c.in-ok-push-units.ensures.text us q ∙ ap (λ (l : List ℕ). l ++ lines) head) (c.as-str.ensures.value ∙ c.in-ok-counts.ensures.answer)
+          c.in_ok-push_line-2.ensures.text
+          ∙ ap₂ (λ (a b : List ℕ). a ++ ended b) (c.in_ok-push_units.ensures.text us q ∙ ap (λ (l : List ℕ). l ++ lines) head) (c.as_str.ensures.value ∙ c.in_ok-counts.ensures.answer)
           ∙ append_assoc (ended heading) lines (ended (count_line c.args.units c.args.octets));
     }
