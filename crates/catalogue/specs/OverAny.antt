@@ -1,8 +1,7 @@
--- Both layers keep the laws of what lies below, and how a narrowing list is searched.
-use Rattle.std.specs.Prelude.{◌≡◌, ℕ, ◌+◌, ◌<◌, ◌≤◌, Bool, true, false, ◌||◌, List, length, drop, ◌==◌, ◌≢◌, slice_index, refl}
-use Rattle.std.proofs.Common.{sym, ap, subst, ◌∙◌, inl, inr, arith}
-use Rattle.std.proofs.lemmas.List.{drop_more, drop_all}
-use Rattle.std.proofs.lemmas.Bool.{cond_both, cond-false, eq-eqb, ne_eqb, or_left}
+-- Both layers keep the laws of what lies below. The impls name these lemmas as their proofs, so they stand in specs/.
+use Rattle.std.specs.Prelude.{ℕ, ◌<◌, List, ◌==◌, refl}
+use Rattle.std.proofs.Common.{sym, subst, inl, inr, arith}
+use Rattle.std.proofs.lemmas.Bool.{cond_both, cond-false, ne_eqb}
 use Rattle.catalogue.specs.declared.Direction.{Direction}
 use Rattle.catalogue.specs.declared.Direction.TheVariants.{ToNetwork, ToModem}
 use Rattle.catalogue.specs.declared.Entry.TheVariants.{Unsupported}
@@ -53,14 +52,3 @@ narrowing_lawful xs m law = record { width = wide; slot = slots; companion = nam
     named d j i =
         either (λ a. NamesCompanion a.entry i → (i < 0xFF00) × Plain (narrowed_to xs m d i).entry) d j
         (λ h. below d i (law.companion d j i h)) (λ h. absurd h)
-
--- the search of a list from its n-th identifier on
-module _ (xs : List ℕ) (i n : ℕ) where
-  pub among_here : n < length xs → slice_index xs n ≡ i → among (drop n xs) i ≡ true
-  among_here lt is = ap (λ (t : List ℕ). among t i) (drop_more xs n 0 lt) ∙ or_left _ _ (eq-eqb _ i is)
-
-  pub among_more : n < length xs → (slice_index xs n ≢ i) → among (drop n xs) i ≡ among (drop (n + 1) xs) i
-  among_more lt differs = ap (λ (t : List ℕ). among t i) (drop_more xs n 0 lt) ∙ ap (λ (b : Bool). b || among (drop (n + 1) xs) i) (ne_eqb _ i differs)
-
-  pub among_none : length xs ≤ n → among (drop n xs) i ≡ false
-  among_none le = ap (λ (t : List ℕ). among t i) (drop_all n xs le)

@@ -112,7 +112,7 @@ fn walks(rt: HostRuntime) -> Result<(), Fail> {
     assert_eq!(rt; dns.place, 3);
     assert_eq!(rt; dns.identifier, 0x000D);
     assert_eq!(rt; dns.start, 6);
-    assert!(rt; dns.contents == [0xC0, 0x00, 0x02, 0x35]);
+    assert!(rt; dns.contents == [0xC0, 0x00, 0x02, 0x35].as_slice());
     let flag = cursor
         .next_unit(&LongEdition, Direction::ToModem)?
         .ok_or("no second unit")?;

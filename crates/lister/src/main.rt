@@ -1,4 +1,6 @@
 // Reads one protocol configuration options element from standard input, and prints its units or why it is declined.
+#![tactic(auto)]
+
 ghost use Rattle.std.specs.Prelude.{◌≤◌, length, IfOk};
 
 use listing::list;

@@ -1,5 +1,5 @@
 use Rattle.std.proofs.Common.{sym, ◌∙◌, arith}
-use Rattle.catalogue.specs.OverAny.{among_here, among_more, among_none}
+use Rattle.catalogue.proofs.Among.{among_here, among_more, among_none}
 use Rattle.catalogue.proofs.layers.is_among.Goals as goal
 
 pub returns-then-one-identifier : goal.returns-then-one-identifier
