@@ -6,7 +6,7 @@ use Rattle.catalogue.specs.declared.Direction.{Direction}
 use Rattle.catalogue.specs.declared.Answer.{Answer}
 use Rattle.catalogue.specs.Meaning.{Meaning}
 use Rattle.element.specs.Outer.{Outer, LawfulOuter, header}
-use Rattle.element.specs.Units.{Octets, ElementUnit, width, size}
+use Rattle.element.specs.Units.{Octets, ElementUnit, size}
 use Rattle.element.specs.Reading.{Reading, whole, declined, reads, units_of}
 use Rattle.element.specs.Laws.{summary}
 use Rattle.element.proofs.Cuts.{Small}

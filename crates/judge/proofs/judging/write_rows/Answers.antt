@@ -1,4 +1,4 @@
-use Rattle.std.proofs.Common.{ℕ, ◌+◌, ◌<◌, ◌≤◌, List, ◌++◌, length, drop, Some, None, Ok, sym, ap, ◌∙◌, ap₂, arith, rules}
+use Rattle.std.proofs.Common.{ℕ, ◌<◌, ◌≤◌, List, ◌++◌, length, drop, Some, None, Ok, sym, ap, ◌∙◌, ap₂, arith, rules}
 use Rattle.catalogue.specs.Meaning.{Meaning}
 use Rattle.element.specs.Outer.{options}
 use Rattle.element.specs.Walk.{position, placed_unit}
