@@ -1,6 +1,6 @@
 -- Octets cut into units: reading what was written, and writing what was read.
 use Rattle.std.proofs.Common.{◌≡◌, ℕ, zero, suc, ◌+◌, ◌/◌, ◌%◌, ◌<◌, ◌≤◌, Bool, true, false, cond, eqb, List, [], ◌∷◌, ◌++◌, length, sym, refl, ap, ◌∙◌, append_assoc, le_of_suc-le-suc, not-suc-le-zero, arith, length-append}
-use Rattle.std.specs.List.{AllByRecursion as All}
+use Rattle.std.specs.List.{AllByRecursion}
 use Rattle.catalogue.specs.declared.Direction.{Direction}
 use Rattle.catalogue.specs.Meaning.{Meaning}
 use Rattle.element.specs.Units.{Octets, ElementUnit, field, width, size, written, all_written}
@@ -33,7 +33,7 @@ module _ (m : Meaning) (d : Direction) where
 
   -- what a cut says of the octets that stand from the place p on: units, all of small identifiers; or whole units up to the place q, where none stands
   abbrev pub CutBack : ℕ → List ℕ → Cut → Type 0
-  CutBack p os (cut us) = (all_written m d us ≡ os) × All Small us
+  CutBack p os (cut us) = (all_written m d us ≡ os) × AllByRecursion Small us
   CutBack p os (stuck_at q) =
       (us : List ElementUnit) × (rest : List ℕ) × (all_written m d us ++ rest ≡ os) × (q ≡ place_from m d p us) × (front m d rest ≡ past)
 

@@ -1,6 +1,6 @@
 -- What was written reads back, and what was read is written back.
 use Rattle.std.proofs.Common.{◌≡◌, ℕ, ◌+◌, eqb, ltb, leb, List, ◌∷◌, ◌++◌, length, get_or, drop, Ok, Err, sym, refl, ap, ◌∙◌, subst, ap₂, inl, arith}
-use Rattle.std.specs.List.{AllByRecursion as All}
+use Rattle.std.specs.List.{AllByRecursion}
 use Rattle.std.proofs.lemmas.Bool.{cond-true, cond-false, le-ltb, le-leb, eq-eqb}
 use Rattle.catalogue.specs.declared.Direction.{Direction}
 use Rattle.catalogue.specs.Meaning.{Meaning}
@@ -45,7 +45,7 @@ module _ (outer : Outer) (lawful : LawfulOuter outer) (m : Meaning) (d : Directi
 
   -- what a reading says of the octets: they are the element's; or they hold whole units up to the place where none stands
   abbrev pub ReadingBack : Reading → Type 0
-  ReadingBack (whole o us) = (element m d outer o us ≡ e) × InFrame outer e × All Small us
+  ReadingBack (whole o us) = (element m d outer o us ≡ e) × InFrame outer e × AllByRecursion Small us
   ReadingBack (declined (RunsPast p)) = InFrame outer e × CutBack m d (header outer) rest (stuck_at p)
   ReadingBack (declined (TooShort n)) = Unit {0}
   ReadingBack (declined WrongFirst) = Unit {0}

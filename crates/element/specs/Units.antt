@@ -1,12 +1,12 @@
 -- A unit, and the octets of units and of a whole element.
 use Rattle.std.specs.Prelude.{ℕ, ◌+◌, ◌/◌, ◌%◌, ◌<◌, cond, List, [], ◌∷◌, ◌++◌, length, ◌==◌}
-use Rattle.std.specs.List.{AllByRecursion as All}
+use Rattle.std.specs.List.{AllByRecursion}
 use Rattle.catalogue.specs.declared.Direction.{Direction}
 use Rattle.catalogue.specs.Meaning.{Meaning}
 use Rattle.element.specs.Outer.{Outer}
 
 abbrev pub Octets : List ℕ → Type 0
-Octets os = All (λ (x : ℕ). x < 256) os
+Octets os = AllByRecursion (λ (x : ℕ). x < 256) os
 
 pub record ElementUnit : Type 0 where
   pub identifier : ℕ

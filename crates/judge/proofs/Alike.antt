@@ -1,7 +1,7 @@
 -- Catalogues that answer alike judge alike.
 use Rattle.std.proofs.Common.{◌≡◌, ℕ, ◌+◌, ◌<◌, Bool, ◌&&◌, ◌||◌, eqb, List, [], ◌∷◌, length, refl, ap, ◌∙◌, ap₂}
 use mathlib.Core.Path.{fun_ext}
-use Rattle.std.specs.List.{AllByRecursion as All}
+use Rattle.std.specs.List.{AllByRecursion}
 use Rattle.catalogue.specs.declared.Direction.{Direction}
 use Rattle.catalogue.specs.declared.Answer.{Answer}
 use Rattle.catalogue.specs.Meaning.{Meaning}
@@ -18,12 +18,12 @@ use Rattle.judge.specs.Verdicts.{is_accepted, checked, companion_stands_for, slo
 use Rattle.judge.specs.Judging.{judged_unit, answered, rows_by, rows_from, rows_of, answer, rows_after}
 
 module _ (m n : Meaning) (d : Direction) (alike : (i : ℕ) → i < 0x10000 → m d i ≡ n d i) where
-  passes_same : (us : List ElementUnit) → All Small us → (i : ℕ) → passes m d us i ≡ passes n d us i
+  passes_same : (us : List ElementUnit) → AllByRecursion Small us → (i : ℕ) → passes m d us i ≡ passes n d us i
   passes_same [] h i = refl
   passes_same (u ∷ us) h i =
       ap₂ (λ (t : Answer) (b : Bool). (eqb u.identifier i && is_accepted (checked t.entry u.contents)) || b) (alike u.identifier h.0) (passes_same us h.1 i)
 
-  met_same : (us : List ElementUnit) → All Small us → (j : ℕ) → j < 0x10000 → met m d us j ≡ met n d us j
+  met_same : (us : List ElementUnit) → AllByRecursion Small us → (j : ℕ) → j < 0x10000 → met m d us j ≡ met n d us j
   met_same us h j k = ap₂ (λ (p : ℕ → Bool) (t : Answer). companion_stands_for p t.entry) (fun_ext (passes_same us h)) (alike j k)
 
   module _ (b c : ℕ → Bool) (agree : (j : ℕ) → j < 0x10000 → b j ≡ c j) where
@@ -34,15 +34,15 @@ module _ (m n : Meaning) (d : Direction) (alike : (i : ℕ) → i < 0x10000 → 
     filled_same : (filled : List ℕ) (u : ElementUnit) → Small u → filled_after m d b filled u ≡ filled_after n d c filled u
     filled_same filled u h = ap₂ (λ (v : Verdict) (t : Answer). fill v (slot_of t.entry) filled) (verdict_same filled u h) (alike u.identifier h)
 
-    from_same : (filled : List ℕ) (us : List ElementUnit) → All Small us → verdicts_from m d b filled us ≡ verdicts_from n d c filled us
+    from_same : (filled : List ℕ) (us : List ElementUnit) → AllByRecursion Small us → verdicts_from m d b filled us ≡ verdicts_from n d c filled us
     from_same filled [] h = refl
     from_same filled (u ∷ us) h =
         ap₂ ◌∷◌ (verdict_same filled u h.0) (from_same (filled_after m d b filled u) us h.1 ∙ ap (λ (k : List ℕ). verdicts_from n d c k us) (filled_same filled u h.0))
 
-  verdicts_same : (us : List ElementUnit) → All Small us → verdicts m d us ≡ verdicts n d us
+  verdicts_same : (us : List ElementUnit) → AllByRecursion Small us → verdicts m d us ≡ verdicts n d us
   verdicts_same us h = from_same (met m d us) (met n d us) (met_same us h) [] us h
 
-  rows_from_same : (p : ℕ) (vs : List Verdict) (us : List ElementUnit) → All Small us → rows_from m d p vs us ≡ rows_from n d p vs us
+  rows_from_same : (p : ℕ) (vs : List Verdict) (us : List ElementUnit) → AllByRecursion Small us → rows_from m d p vs us ≡ rows_from n d p vs us
   rows_from_same p [] us h = refl
   rows_from_same p (v ∷ vs) [] h = refl
   rows_from_same p (v ∷ vs) (u ∷ us) h =
@@ -51,7 +51,7 @@ module _ (m n : Meaning) (d : Direction) (alike : (i : ℕ) → i < 0x10000 → 
       ∙ ap (λ (t : Answer). rows_from n d (p + (2 + t.width + length u.contents)) vs us) (alike u.identifier h.0))
 
   module _ (outer : Outer) (lawful : LawfulOuter outer) (e : List ℕ) (octets : Octets e) where
-    small : (r : Reading) → reads m d outer e ≡ r → All Small (units_of r)
+    small : (r : Reading) → reads m d outer e ≡ r → AllByRecursion Small (units_of r)
     small (whole o us) q = (reading_is outer lawful m d e octets (whole o us) q).2
     small (declined f) q = tt
 

@@ -1,6 +1,6 @@
 -- What an element gives for a slot fits that slot.
 use Rattle.std.proofs.Common.{◌≡◌, ℕ, suc, ◌+◌, ◌<◌, ◌≤◌, Bool, true, false, cond, eqb, leb, List, [], ◌∷◌, map, length, Some, None, Option, sym, refl, ap, ◌∙◌, subst, inl, inr, arith}
-use Rattle.std.specs.List.{AllByRecursion as All}
+use Rattle.std.specs.List.{AllByRecursion}
 use Rattle.std.proofs.lemmas.Bool.{eqb-true, leb-false, ne_eqb, cond-false, cond_both}
 use Rattle.catalogue.specs.declared.Direction.{Direction}
 use Rattle.catalogue.specs.declared.Rule.{Rule}
@@ -77,7 +77,7 @@ module _ (m : Meaning) (d : Direction) (s : ℕ) where
         (λ e. last_free (c u.identifier) _ (or_second (checked (m d u.identifier).entry u.contents) _ e)))
 
 -- what holds of every line of the slot table holds of each line looked up
-looked_up : (Q : Option SlotLine → Type 0) (ls : List SlotLine) → Q None → All (λ (l : SlotLine). Q (Some l)) ls → (s : ℕ) → Q (line_in ls s)
+looked_up : (Q : Option SlotLine → Type 0) (ls : List SlotLine) → Q None → AllByRecursion (λ (l : SlotLine). Q (Some l)) ls → (s : ℕ) → Q (line_in ls s)
 looked_up Q [] u h s = u
 looked_up Q (l ∷ ls) u h s = cond_both (eqb l.slot s) (Some l) (line_in ls s) Q (λ _. h.0) (λ _. looked_up Q ls u h.1 s)
 
@@ -91,7 +91,7 @@ module _ (r : Rule) (os : List ℕ) (fine : allowed r (length os) ≡ true) wher
   sized : (q : Rule) (n : ℕ) → (allowed q (length os) ≡ true → length (value q os) ≡ n) → r ≡ q → length (value r os) ≡ n
   sized q n f e = subst (λ (k : Rule). length (value k os) ≡ n) (sym e) (f (as_rule q e))
 
-  all_sized : All (λ (l : SlotLine). Sized (Some l)) slot_table
+  all_sized : AllByRecursion (λ (l : SlotLine). Sized (Some l)) slot_table
   all_sized =
       (sized _ 4 (eqb-true (length os) 4), (sized _ 16 (eqb-true (length os) 16), (sized _ 4 (eqb-true (length os) 4), (sized _ 16 (eqb-true (length os) 16), (sized _ 17 (eqb-true (length os) 17), (sized _ 2 (eqb-true (length os) 2), (sized _ 1 (eqb-true (length os) 1), (sized _ 0 (eqb-true (length os) 0), ((λ q. sized (StrikeOrder q.0) 2 (λ _. refl) q.1), tt)))))))))
 
@@ -110,7 +110,7 @@ entry_octets (Listed r) (inr l) pos os h = rule_octets r.rule os (allowed_if _ (
 
 module _ (m : Meaning) (law : Lawful m) (d : Direction) (s : ℕ) (pos : 0 < s) where
   abbrev Right : List (List ℕ) → Type 0
-  Right vs = All (λ (v : List ℕ). length v ≡ octets_of s) vs
+  Right vs = AllByRecursion (λ (v : List ℕ). length v ≡ octets_of s) vs
 
   right_one : (b : Bool) (u : ElementUnit) → (b ≡ true → is_accepted (checked (m d u.identifier).entry u.contents) ≡ true) → (us : List ElementUnit) → Right (values_in s (map (giving m d) us)) → Right (values_in s (map (giving m d) (cond b (u ∷ us) us)))
   right_one false u h us r = r
