@@ -3,7 +3,6 @@ ghost use Rattle.std.specs.Prelude.{◌≡◌, ◌^◌, ◌<◌, ◌≤◌, ◌�
 ghost use Rattle.catalogue.specs.Layers as layers;
 ghost use Rattle.catalogue.specs.Operators as operators;
 ghost use Rattle.catalogue.specs.OverAny.{operator_lawful, narrowing_lawful};
-ghost use Rattle.catalogue.specs.Layers.{identifiers_of};
 
 use crate::{
     Answer, Catalogue, Companions, Direction, Entry, Layer, OperatorCode, Refusal, Row, Rule,
@@ -184,7 +183,7 @@ impl<C: Catalogue> Catalogue for OperatorLayer<C> {
 impl<C: Catalogue> Catalogue for NarrowingLayer<C> {
     ghost meaning = { λ s. layers.narrowed_to (layers.identifiers_of s.list) (C.Catalogue.meaning s.below) };
 
-    ghost lawful = { λ c. narrowing_lawful (identifiers_of c.list) (C.Catalogue.meaning c.below) (C.Catalogue.lawful c.below) };
+    ghost lawful = { λ c. narrowing_lawful (layers.identifiers_of c.list) (C.Catalogue.meaning c.below) (C.Catalogue.lawful c.below) };
 
     // The width is that of the catalogue below, also where the identifier is not listed: units are cut alike.
     fn answer(&self, direction: Direction, identifier: u16) -> Answer {
