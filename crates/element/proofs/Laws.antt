@@ -1,16 +1,13 @@
 -- The law of reading, of any lawful outer form, and the summary that `read` answers.
-use Rattle.std.proofs.Common.{◌≡◌, ℕ, ◌+◌, List, length, Ok, Err, Result, sym, refl, ap, arith}
+use Rattle.std.proofs.Common.{◌≡◌, ℕ, List, get_or, w8, Fits, sym}
 use Rattle.catalogue.specs.declared.Direction.{Direction}
 use Rattle.catalogue.specs.Meaning.{Meaning}
 use Rattle.catalogue.specs.Laws.{Lawful}
-use Rattle.element.specs.declared.reader.ReaderFault.{ReaderFault}
-use Rattle.element.specs.declared.reader.ReaderFault.TheVariants.{RunsPast}
-use Rattle.element.specs.declared.reader.Whole.{Whole}
-use Rattle.element.specs.Outer.{Outer, LawfulOuter}
-use Rattle.element.specs.Units.{Octets, ElementUnit}
-use Rattle.element.specs.Reading.{Cut, cut, stuck_at, onto, framed}
-use Rattle.element.specs.Laws.{summary, ReadingLaw}
-use Rattle.element.proofs.RoundTrips.{read_back, written_back}
+use Rattle.element.specs.Outer.{Outer, LawfulOuter, options}
+use Rattle.element.specs.Units.{Octets}
+use Rattle.element.specs.Laws.{ReadingLaw}
+use Rattle.element.proofs.Octets.{slice_octets}
+use Rattle.element.proofs.RoundTrips.{options_lawful, read_back, written_back}
 use Rattle.element.proofs.Places.{places, walk_law}
 use Rattle.element.proofs.Refusals.{refused_in_order}
 use Rattle.element.proofs.Alike.{reads_same}
@@ -26,15 +23,6 @@ reading_law outer lawful m law d e octets =
       alike = λ n same. sym (reads_same m n d (same d) outer e octets);
     }
 
--- a summary with n units more
-abbrev pub summary_with : ℕ → ℕ → Cut → Result Whole ReaderFault
-summary_with o n (cut us) = Ok (record { configuration = o; units = n + length us })
-summary_with o n (stuck_at p) = Err (RunsPast p)
-
-pub summary_none : (o : ℕ) (c : Cut) → summary_with o 0 c ≡ summary (framed o c)
-summary_none o (cut us) = ap (λ (n : ℕ). Ok (record { configuration = o; units = n })) (omega arith)
-summary_none o (stuck_at p) = refl
-
-pub summary_more : (o n : ℕ) (u : ElementUnit) (c : Cut) → summary_with o (n + 1) c ≡ summary_with o n (onto u c)
-summary_more o n u (cut us) = ap (λ (k : ℕ). Ok (record { configuration = o; units = k })) (omega arith)
-summary_more o n u (stuck_at p) = refl
+-- the same of the protocol configuration options element, where a slice has octets
+pub options_law : (m : Meaning) → Lawful m → (d : Direction) (e : List ℕ) → ((i : ℕ) → Fits w8 (get_or e i 0)) → ReadingLaw m d options e
+options_law m law d e typed = reading_law options options_lawful m law d e (slice_octets e typed)

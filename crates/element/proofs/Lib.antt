@@ -8,4 +8,6 @@ pub mod Places
 pub mod Refusals
 pub mod Alike
 pub mod Walk
+pub mod Counts
+pub mod Left
 pub mod Laws

@@ -4,14 +4,14 @@ use Rattle.std.proofs.lemmas.List.{drop_all, drop-drop}
 use Rattle.catalogue.specs.declared.Direction.{Direction}
 use Rattle.catalogue.specs.Meaning.{Meaning}
 use Rattle.catalogue.specs.Laws.{Lawful}
-use Rattle.element.specs.declared.reader.Head.{Head}
-use Rattle.element.specs.declared.reader.PlacedUnit.{PlacedUnit}
+use Rattle.element.specs.declared.cursor.Head.{Head}
+use Rattle.element.specs.declared.cursor.PlacedUnit.{PlacedUnit}
 use Rattle.element.specs.declared.reader.ReaderFault.{ReaderFault}
 use Rattle.element.specs.declared.reader.ReaderFault.TheVariants.{RunsPast}
 use Rattle.element.specs.Units.{ElementUnit, unit, width, size}
 use Rattle.element.specs.Reading.{Front, finished, stands, past, front, cut, stuck_at, onto, next, cutting}
 use Rattle.element.specs.Heads.{front_as, Within}
-use Rattle.element.specs.Walk.{Found, Placed, Position, placed, found_at, place_behind, seen, unit_at, step_from, cut_from}
+use Rattle.element.specs.Walk.{Found, Placed, Position, placed_unit, placed, found_at, place_behind, seen, unit_at, step_from, cut_from, Walk, unit_before, one_on, cut_on}
 use Rattle.element.proofs.Steps.{FrontSized, front_sized, cut_step}
 
 module _ (m : Meaning) (d : Direction) (e : List ℕ) (p : ℕ) where
@@ -80,3 +80,16 @@ module _ (m : Meaning) (d : Direction) (s : Position) where
     -- the same of what a call of the cursor returned, once that is known to be v
     pub turned : (r v : Result (Option PlacedUnit) ReaderFault) (t : Position) → seen r ≡ unit_at m d s → t ≡ step_from m d s → r ≡ v → Onward (seen v) t
     turned r v t answer state q = subst (λ (x : Result (Option PlacedUnit) ReaderFault). Onward (seen x) t) q (onward (seen r) t answer state)
+
+-- the unit u before the walk w, and the walk t behind it
+pub record OneMoreOn (w : Walk) (u : Placed) (t : Walk) : Type 0 where
+  pub here : u ≡ placed w.meaning w.direction w.position.place (unit_of u)
+  pub behind : t.position.place ≡ w.position.place + size w.meaning w.direction (unit_of u)
+  pub cuts : cut_on w ≡ onto (unit_of u) (cut_on t)
+  pub less : left t.position < left w.position
+
+-- a call of the cursor that returned a unit
+pub turned_on : (w t : Walk) → Lawful w.meaning → (r : Result (Option PlacedUnit) ReaderFault) (u : PlacedUnit) → seen r ≡ unit_before w → t ≡ one_on w → r ≡ Ok (Some u) → OneMoreOn w (placed_unit u) t
+turned_on w t law r u answer state is =
+    let more : OneMore w.meaning w.direction w.position (placed_unit u) (one_on w).position = turned w.meaning w.direction w.position law r (Ok (Some u)) (one_on w).position answer refl is in
+    subst (OneMoreOn w (placed_unit u)) (sym state) (record { here = more.here; behind = more.behind; cuts = more.cuts; less = more.less })

@@ -2,7 +2,7 @@
 use Rattle.std.specs.Prelude.{◌≡◌, ℕ, ◌+◌, ◌≤◌, cond, List, length, take, drop, Some, None, Option, ◌==◌}
 use Rattle.catalogue.specs.declared.Direction.{Direction}
 use Rattle.catalogue.specs.Meaning.{Meaning}
-use Rattle.element.specs.declared.reader.Head.{Head}
+use Rattle.element.specs.declared.cursor.Head.{Head}
 use Rattle.element.specs.Units.{unit}
 use Rattle.element.specs.Reading.{Field, cut_off, counts, Front, stands, past}
 

@@ -6,4 +6,7 @@ pub mod RoundTrips
 pub mod Places
 pub mod Heads
 pub mod Walk
+pub mod Counts
+pub mod Left
+pub mod Handed
 pub mod Laws

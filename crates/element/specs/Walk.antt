@@ -2,12 +2,12 @@
 use Rattle.std.specs.Prelude.{◌≡◌, ℕ, ◌+◌, ◌≤◌, List, [], ◌∷◌, ◌++◌, length, drop, Some, None, Ok, Err, Option, Result}
 use Rattle.catalogue.specs.declared.Direction.{Direction}
 use Rattle.catalogue.specs.Meaning.{Meaning}
-use Rattle.element.specs.declared.reader.Cursor.{Cursor}
-use Rattle.element.specs.declared.reader.PlacedUnit.{PlacedUnit}
+use Rattle.element.specs.declared.cursor.Cursor.{Cursor}
+use Rattle.element.specs.declared.cursor.PlacedUnit.{PlacedUnit}
 use Rattle.element.specs.declared.reader.ReaderFault.{ReaderFault}
 use Rattle.element.specs.declared.reader.ReaderFault.TheVariants.{RunsPast}
 use Rattle.element.specs.Outer.{Outer, header}
-use Rattle.element.specs.Units.{ElementUnit, width}
+use Rattle.element.specs.Units.{ElementUnit, width, size}
 use Rattle.element.specs.Reading.{Front, finished, stands, past, front, Cut, cutting, whole, declined, frame, reads}
 use Rattle.element.specs.Places.{place_after}
 
@@ -28,8 +28,18 @@ abbrev pub Found : Type 0
 Found = Result (Option Placed) ReaderFault
 
 -- the position of a cursor
-abbrev pub position : Cursor → Position
+abbrev pub position : {C : Type 0} → Cursor C → Position
 position c = record { octets = c.octets.now; place = c.place }
+
+-- a walk: the catalogue's meaning and the direction under which it cuts, and its position
+pub record Walk : Type 0 where
+  pub meaning : Meaning
+  pub direction : Direction
+  pub position : Position
+
+-- the walk of a cursor, where `meaning` says what its catalogue means
+abbrev pub walk_of : {C : Type 0} → (C → Meaning) → Cursor C → Walk
+walk_of meaning c = record { meaning = meaning c.catalogue.now; direction = c.direction; position = position c }
 
 abbrev pub placed_unit : PlacedUnit → Placed
 placed_unit u = record { place = u.place; identifier = u.identifier; start = u.start; contents = u.contents.now }
@@ -40,21 +50,25 @@ seen (Err f) = Err f
 seen (Ok None) = Ok None
 seen (Ok (Some u)) = Ok (Some (placed_unit u))
 
-abbrev pub opened : Result Cursor ReaderFault → Result Position ReaderFault
-opened (Err f) = Err f
-opened (Ok c) = Ok (position c)
+abbrev pub opened : {C : Type 0} → (C → Meaning) → Result (Cursor C) ReaderFault → Result Walk ReaderFault
+opened meaning (Err f) = Err f
+opened meaning (Ok c) = Ok (walk_of meaning c)
 
 -- the position behind the header
 abbrev pub behind_header : Outer → List ℕ → Position
 behind_header outer e = record { octets = e; place = header outer }
 
--- a walk begins there, if the element passes the tests of its frame
-abbrev pub opening_by : Outer → List ℕ → Result ℕ ReaderFault → Result Position ReaderFault
-opening_by outer e (Err f) = Err f
-opening_by outer e (Ok o) = Ok (behind_header outer e)
+-- the walk that begins there
+abbrev pub from_header : Meaning → Direction → Outer → List ℕ → Walk
+from_header m d outer e = record { meaning = m; direction = d; position = behind_header outer e }
 
-abbrev pub opening : Outer → List ℕ → Result Position ReaderFault
-opening outer e = opening_by outer e (frame outer e)
+-- a walk begins there, if the element passes the tests of its frame
+abbrev pub opening_by : Meaning → Direction → Outer → List ℕ → Result ℕ ReaderFault → Result Walk ReaderFault
+opening_by m d outer e (Err f) = Err f
+opening_by m d outer e (Ok o) = Ok (from_header m d outer e)
+
+abbrev pub opening : Meaning → Direction → Outer → List ℕ → Result Walk ReaderFault
+opening m d outer e = opening_by m d outer e (frame outer e)
 
 -- the place behind the unit found at the place p; where none was found, the place stays
 abbrev pub place_behind : ℕ → Found → ℕ
@@ -90,6 +104,11 @@ module _ (m : Meaning) (d : Direction) where
   abbrev pub cut_from : Position → Cut
   cut_from s = cutting m d (length (drop s.place s.octets)) s.place (drop s.place s.octets)
 
+  -- units one after the other from the place p on, each where it stands
+  abbrev pub placed_from : ℕ → List ElementUnit → List Placed
+  placed_from p [] = []
+  placed_from p (u ∷ us) = placed p u ∷ placed_from (p + size m d u) us
+
   module _ (outer : Outer) (e : List ℕ) where
     -- the position after the units `before` of the element
     abbrev pub position_after : List ElementUnit → Position
@@ -105,3 +124,14 @@ module _ (m : Meaning) (d : Direction) where
     pub record WalkLaw : Type 0 where
       pub over_whole : (o : ℕ) (us : List ElementUnit) → reads m d outer e ≡ whole o us → Gives us (Ok None)
       pub up_to_fault : (p : ℕ) → reads m d outer e ≡ declined (RunsPast p) → (us : List ElementUnit) × (place_after m d outer us ≡ p) × Gives us (Err (RunsPast p))
+
+-- what stands before a walk, and the walk behind it
+abbrev pub unit_before : Walk → Found
+unit_before w = unit_at w.meaning w.direction w.position
+
+abbrev pub one_on : Walk → Walk
+one_on w = record { meaning = w.meaning; direction = w.direction; position = step_from w.meaning w.direction w.position }
+
+-- the octets that a walk has still to cut
+abbrev pub cut_on : Walk → Cut
+cut_on w = cut_from w.meaning w.direction w.position

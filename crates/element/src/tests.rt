@@ -3,7 +3,7 @@ ghost use Rattle.catalogue.specs.Meaning.{answer};
 ghost use Rattle.catalogue.specs.declared.Entry.TheVariants.{Unsupported};
 ghost use Rattle.std.proofs.Common.{rules};
 
-use crate::{Cursor, ReaderFault, Whole, read};
+use crate::{Cursor, ReaderFault, read};
 use catalogue::{Answer, Catalogue, Direction, Entry, Layer, LongEdition};
 use std::test::Fail;
 
@@ -23,15 +23,18 @@ impl Catalogue for Wide {
     }
 }
 
-fn read_long(element: &[u8]) -> Result<Whole, ReaderFault> {
-    read(&LongEdition, Direction::ToModem, element)
+// The configuration octet of a whole element to modem, and how many units it has.
+fn read_by<C: Catalogue>(catalogue: &C, element: &[u8]) -> Result<(u8, usize), ReaderFault> {
+    let whole = read(catalogue, Direction::ToModem, element)?;
+    Ok((whole.configuration, whole.units.len()))
 }
 
-fn whole(configuration: u8, units: usize) -> Result<Whole, ReaderFault> {
-    Ok(Whole {
-        configuration,
-        units,
-    })
+fn read_long(element: &[u8]) -> Result<(u8, usize), ReaderFault> {
+    read_by(&LongEdition, element)
+}
+
+fn whole(configuration: u8, units: usize) -> Result<(u8, usize), ReaderFault> {
+    Ok((configuration, units))
 }
 
 #[test]
@@ -105,51 +108,36 @@ fn walks(rt: HostRuntime) -> Result<(), Fail> {
     let element = [
         0x27, 0x0C, 0x80, 0x00, 0x0D, 0x04, 0xC0, 0x00, 0x02, 0x35, 0x00, 0x02, 0x01, 0xAA,
     ];
-    let mut cursor = Cursor::open(&element)?;
-    let dns = cursor
-        .next_unit(&LongEdition, Direction::ToModem)?
-        .ok_or("no first unit")?;
+    let mut cursor = Cursor::open(&LongEdition, Direction::ToModem, &element)?;
+    let dns = cursor.next_unit()?.ok_or("no first unit")?;
     assert_eq!(rt; dns.place, 3);
     assert_eq!(rt; dns.identifier, 0x000D);
     assert_eq!(rt; dns.start, 6);
     assert!(rt; dns.contents == [0xC0, 0x00, 0x02, 0x35].as_slice());
-    let flag = cursor
-        .next_unit(&LongEdition, Direction::ToModem)?
-        .ok_or("no second unit")?;
+    let flag = cursor.next_unit()?.ok_or("no second unit")?;
     assert_eq!(rt; flag.place, 10);
     assert_eq!(rt; flag.start, 13);
-    assert!(rt;
-        cursor
-            .next_unit(&LongEdition, Direction::ToModem)?
-            .is_none()
-    );
+    assert!(rt; cursor.next_unit()?.is_none());
+    // the units of the whole element are the same
+    let mut units = read(&LongEdition, Direction::ToModem, &element)?.units;
+    assert_eq!(rt; units.next(), Some(dns));
+    assert_eq!(rt; units.next(), Some(flag));
+    assert_eq!(rt; units.next(), None);
     Ok(())
 }
 
 #[test]
 fn two_octet_lengths(rt: HostRuntime) {
     assert_eq!(rt;
-        read(
-            &Wide,
-            Direction::ToModem,
-            &[0x27, 0x06, 0x80, 0x00, 0x23, 0x00, 0x01, 0xAA],
-        ),
+        read_by(&Wide, &[0x27, 0x06, 0x80, 0x00, 0x23, 0x00, 0x01, 0xAA]),
         whole(0x80, 1)
     );
     assert_eq!(rt;
-        read(
-            &Wide,
-            Direction::ToModem,
-            &[0x27, 0x04, 0x80, 0x00, 0x23, 0x00],
-        ),
+        read_by(&Wide, &[0x27, 0x04, 0x80, 0x00, 0x23, 0x00]),
         Err(ReaderFault::RunsPast(3))
     );
     assert_eq!(rt;
-        read(
-            &Wide,
-            Direction::ToModem,
-            &[0x27, 0x06, 0x80, 0x00, 0x23, 0x01, 0x00, 0xAA],
-        ),
+        read_by(&Wide, &[0x27, 0x06, 0x80, 0x00, 0x23, 0x01, 0x00, 0xAA]),
         Err(ReaderFault::RunsPast(3))
     );
 }

@@ -3,7 +3,7 @@ use Rattle.std.specs.Prelude.{ℕ, ◌-◌, Bool, true, false, cond, List, [], �
 use Rattle.catalogue.specs.declared.Direction.{Direction}
 use Rattle.catalogue.specs.Meaning.{Meaning}
 use Rattle.catalogue.specs.Slots.{holds}
-use Rattle.element.specs.declared.reader.PlacedUnit.{PlacedUnit}
+use Rattle.element.specs.declared.cursor.PlacedUnit.{PlacedUnit}
 use Rattle.element.specs.Units.{ElementUnit, unit}
 use Rattle.element.specs.Reading.{Cut, cut, stuck_at}
 use Rattle.element.specs.Walk.{Position, cut_from}

@@ -1,0 +1,31 @@
+-- The units of a whole element: the walk over them, and what it has still to hand out.
+use Rattle.std.specs.Prelude.{ℕ, List, Ok, Err, Result}
+use Rattle.catalogue.specs.declared.Catalogue.{Ghosts}
+use Rattle.element.specs.declared.reader.ReaderFault.{ReaderFault}
+use Rattle.element.specs.declared.units.Units.{Units}
+use Rattle.element.specs.Walk.{Placed, Walk, walk_of, cut_on}
+use Rattle.element.specs.Left.{units_left}
+use Rattle.element.specs.Counts.{counted}
+
+-- a walk over whole units, and how many they are
+pub record WholeWalk : Type 0 where
+  pub walk : Walk
+  pub count : ℕ
+
+abbrev pub whole_walk : {C : Type 0} (catalogue : Ghosts C) → Units C catalogue → WholeWalk
+whole_walk catalogue us = record { walk = walk_of catalogue.meaning us.cursor; count = us.left }
+
+abbrev pub left_of : {C : Type 0} (catalogue : Ghosts C) → Units C catalogue → List Placed
+left_of catalogue us = units_left (walk_of catalogue.meaning us.cursor)
+
+abbrev pub walks : {C : Type 0} (catalogue : Ghosts C) → Result (Units C catalogue) ReaderFault → Result WholeWalk ReaderFault
+walks catalogue (Ok us) = Ok (whole_walk catalogue us)
+walks catalogue (Err f) = Err f
+
+abbrev pub starting_by : Walk → Result ℕ ReaderFault → Result WholeWalk ReaderFault
+starting_by w (Ok n) = Ok (record { walk = w; count = n })
+starting_by w (Err f) = Err f
+
+-- the walk, if its units are whole up to the end
+abbrev pub starting : Walk → Result WholeWalk ReaderFault
+starting w = starting_by w (counted (cut_on w))

@@ -1,0 +1,78 @@
+// The units of a whole element, handed out one after the other.
+ghost use Rattle.std.specs.Prelude.{◌≡◌, Some};
+ghost use Rattle.std.proofs.Props.{props};
+ghost use Rattle.element.specs.Walk.{cut_on, walk_of};
+ghost use Rattle.element.specs.Left.{count_of};
+
+use crate::cursor::{Cursor, PlacedUnit};
+use crate::reader::ReaderFault;
+use catalogue::{Answer, Catalogue};
+use std::alloc::AllocError;
+
+/// The units of a whole element from one of them on, each where it stands. Being whole, it has no unit that runs past its
+/// end, so handing out the units never fails.
+pub struct Units<'a, C: Catalogue> {
+    cursor: Cursor<'a, C>,
+    left: usize,
+    ghost whole: { count_of (cut_on (walk_of C.meaning cursor)) ≡ Some left } by { Prim.hlevel props },
+}
+
+impl<'a, C: Catalogue> Units<'a, C> {
+    ghost use Rattle.element.specs.Handed.{walks, starting};
+
+    // The units from a cursor on, or the fault of the one that runs past the end.
+    pub(crate) fn new(cursor: Cursor<'a, C>) -> Result<Units<'a, C>, ReaderFault>
+        ensures answer { walks C.Catalogue result ≡ starting (walk_of C.meaning cursor.entry) }
+    {
+        let left = cursor.count_units()?;
+        Ok(Units { cursor, left })
+    }
+
+    /// What the catalogue by which the units are cut answers for an identifier, in the element's direction.
+    pub fn answer(&self, identifier: u16) -> Answer
+        ensures answer { result ≡ C.meaning self.now.cursor.catalogue.now self.now.cursor.direction identifier }
+    {
+        self.cursor.answer(identifier)
+    }
+}
+
+impl<'a, C: Catalogue> Clone for Units<'a, C> {
+    ghost use Rattle.std.specs.Prelude.{⊤};
+
+    ghost is_clone = { λ s r. r ≡ s };
+
+    ghost is_infallible = { λ _. ⊤ };
+
+    fn clone(&self) -> Result<Units<'a, C>, AllocError> {
+        Ok(*self)
+    }
+}
+
+impl<'a, C: Catalogue> Copy for Units<'a, C> {}
+
+impl<'a, C: Catalogue> Iterator for Units<'a, C> {
+    ghost use Rattle.std.specs.Iterator.{YieldsFirstBy, item_count};
+    ghost use Rattle.element.specs.Walk.{placed_unit};
+    ghost use Rattle.element.specs.Handed.{left_of};
+
+    type Item = PlacedUnit<'a>;
+
+    ghost next_gives = { YieldsFirstBy placed_unit (left_of C.Catalogue) };
+
+    ghost remaining = { item_count (left_of C.Catalogue) };
+
+    fn next(&mut self) -> Option<PlacedUnit<'a>> {
+        if self.left == 0 {
+            return None;
+        }
+        let unit = self.cursor.next_unit().ok().flatten()?;
+        self.left -= 1;
+        Some(unit)
+    }
+}
+
+impl<'a, C: Catalogue> ExactSizeIterator for Units<'a, C> {
+    fn len(&self) -> usize {
+        self.left
+    }
+}
