@@ -4,9 +4,7 @@ ghost use Rattle.catalogue.specs.Layers as layers;
 ghost use Rattle.catalogue.specs.Operators as operators;
 ghost use Rattle.catalogue.specs.OverAny.{operator_lawful, narrowing_lawful};
 
-use crate::{
-    Answer, Catalogue, Companions, Direction, Entry, Layer, OperatorCode, Refusal, Row, Rule,
-};
+use crate::{Answer, Catalogue, Companions, Direction, Layer, OperatorCode, Refusal, Row, Rule};
 
 /// The most identifiers of a narrowing list.
 pub const MOST_IDENTIFIERS: usize = 16;
@@ -193,7 +191,7 @@ impl<C: Catalogue> Catalogue for NarrowingLayer<C> {
         } else {
             Answer {
                 width: below.width,
-                entry: Entry::Unsupported,
+                entry: None,
             }
         }
     }
@@ -216,7 +214,7 @@ fn strike_answer(code: OperatorCode) -> Answer
 {
     Answer {
         width: 1,
-        entry: Entry::Listed(Row {
+        entry: Some(Row {
             rule: Rule::StrikeOrder(code),
             slot: 9,
             companions: Companions::None,

@@ -1,24 +1,24 @@
 // The reader on small inputs and at its edges.
 ghost use Rattle.catalogue.specs.Meaning.{answer};
-ghost use Rattle.catalogue.specs.declared.Entry.TheVariants.{Unsupported};
 ghost use Rattle.std.proofs.Common.{rules};
+ghost use Rattle.std.specs.Prelude.{None};
 
 use crate::{Cursor, ReaderFault, Whole, read};
-use catalogue::{Answer, Catalogue, Direction, Entry, Layer, LongEdition};
+use catalogue::{Answer, Catalogue, Direction, Layer, LongEdition};
 use std::test::Fail;
 
 // A catalogue that supports nothing, with length fields of two octets.
 struct Wide;
 
 impl Catalogue for Wide {
-    ghost meaning = { λ _ d i. answer 2 Unsupported };
+    ghost meaning = { λ _ d i. answer 2 None };
 
     ghost lawful = { Prim.search rules };
 
     fn answer(&self, direction: Direction, identifier: u16) -> Answer {
         Answer {
             width: 2,
-            entry: Entry::Unsupported,
+            entry: None,
         }
     }
 }

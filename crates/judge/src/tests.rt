@@ -1,12 +1,12 @@
 // Judging small elements, through `judge`.
 ghost use Rattle.catalogue.specs.Meaning.{answer};
-ghost use Rattle.catalogue.specs.declared.Entry.TheVariants.{Unsupported};
 ghost use Rattle.std.proofs.Common.{rules};
+ghost use Rattle.std.specs.Prelude.{None};
 
 use crate::{JudgeFault, JudgedUnit, Verdict, judge};
 use catalogue::{
-    Answer, Catalogue, Direction, Entry, IdentifierList, Layer, LongEdition, NarrowingLayer,
-    OperatorCode, OperatorLayer, ShortEdition,
+    Answer, Catalogue, Direction, IdentifierList, Layer, LongEdition, NarrowingLayer, OperatorCode,
+    OperatorLayer, ShortEdition,
 };
 use element::ReaderFault;
 use std::test::Fail;
@@ -104,14 +104,14 @@ fn piled_layers(rt: HostRuntime) -> Result<(), Fail> {
 struct Wide;
 
 impl Catalogue for Wide {
-    ghost meaning = { λ _ d i. answer 2 Unsupported };
+    ghost meaning = { λ _ d i. answer 2 None };
 
     ghost lawful = { Prim.search rules };
 
     fn answer(&self, direction: Direction, identifier: u16) -> Answer {
         Answer {
             width: 2,
-            entry: Entry::Unsupported,
+            entry: None,
         }
     }
 }
