@@ -6,6 +6,8 @@ use Rattle.catalogue.specs.declared.Rule.TheVariants.{Empty, Ipv4, Ipv6, Prefix,
 use Rattle.catalogue.specs.declared.Companions.{Companions}
 use Rattle.catalogue.specs.declared.Companions.TheVariants.{Two}
 use Rattle.catalogue.specs.declared.Row.{Row}
+use Rattle.catalogue.specs.declared.editions.Edition.{Edition}
+use Rattle.catalogue.specs.declared.editions.Edition.TheVariants.{Short, Long}
 use Rattle.catalogue.specs.Meaning.{Meaning, answer}
 
 abbrev pub row_of : Rule → ℕ → Companions → Row
@@ -134,3 +136,7 @@ added = edition added_to_network added_to_modem
 
 abbrev pub long : Meaning
 long = edition long_to_network long_to_modem
+
+abbrev pub meaning_of : Edition → Meaning
+meaning_of Short = short
+meaning_of Long = long

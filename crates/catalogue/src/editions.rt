@@ -1,43 +1,36 @@
 // The short and the long edition. Each decides a row by ranges of identifiers, with the direction as a guard.
 ghost use Rattle.std.specs.Prelude.{◌≡◌};
 ghost use Rattle.catalogue.specs.Editions as tables;
+ghost use Rattle.catalogue.specs.declared.editions.Edition.TheVariants.{Short, Long};
 ghost use Rattle.std.proofs.Common.{rules};
 
 use crate::{Answer, Catalogue, Companions, Direction, Row, Rule};
 
-/// The identifiers of an earlier text of the standard's table, whose containers end at 0011.
-#[derive(Clone, Copy)]
-pub struct ShortEdition;
-
-/// The identifiers of a later text, whose containers end at 0022: the short edition and its additions.
-#[derive(Clone, Copy)]
-pub struct LongEdition;
+/// The two texts of the standard's table.
+#[derive(Clone, Copy, PartialEq, Debug)]
+pub enum Edition {
+    /// An earlier text, whose containers end at 0011.
+    Short,
+    /// A later text, whose containers end at 0022: the short edition and its additions.
+    Long,
+}
 
 /// Both editions have length fields of one octet throughout.
 const WIDTH: u8 = 1;
 
-impl Catalogue for ShortEdition {
-    ghost meaning = { λ _. tables.short };
+impl Catalogue for Edition {
+    ghost meaning = { tables.meaning_of };
 
-    ghost lawful = { Prim.search rules };
-
-    fn answer(&self, direction: Direction, identifier: u16) -> Answer {
-        Answer {
-            width: WIDTH,
-            entry: short_row(direction, identifier),
-        }
-    }
-}
-
-impl Catalogue for LongEdition {
-    ghost meaning = { λ _. tables.long };
-
-    ghost lawful = { Prim.search rules };
+    ghost lawful = { elim [ Short ↦ Prim.search rules | Long ↦ Prim.search rules ] };
 
     fn answer(&self, direction: Direction, identifier: u16) -> Answer {
+        let entry = match self {
+            Edition::Short => short_row(direction, identifier),
+            Edition::Long => long_row(direction, identifier),
+        };
         Answer {
             width: WIDTH,
-            entry: long_row(direction, identifier),
+            entry,
         }
     }
 }

@@ -11,7 +11,7 @@ mod layers;
 #[cfg(test)]
 mod tests;
 
-pub use editions::{LongEdition, ShortEdition};
+pub use editions::Edition;
 pub use layers::{
     CatalogueFault, IdentifierList, MOST_IDENTIFIERS, NarrowingLayer, OperatorLayer, STRIKE_ORDER,
 };

@@ -1,16 +1,16 @@
 // Some rows of both editions, and the layers' parts.
 use crate::{
-    Catalogue, CatalogueFault, Companions, Direction, IdentifierList, Layer, LongEdition,
-    NarrowingLayer, OperatorCode, OperatorLayer, Row, Rule, ShortEdition,
+    Catalogue, CatalogueFault, Companions, Direction, Edition, IdentifierList, Layer,
+    NarrowingLayer, OperatorCode, OperatorLayer, Row, Rule,
 };
 use std::test::Fail;
 
 fn short(direction: Direction, identifier: u16) -> Option<Row> {
-    ShortEdition.answer(direction, identifier).entry
+    Edition::Short.answer(direction, identifier).entry
 }
 
 fn long(direction: Direction, identifier: u16) -> Option<Row> {
-    LongEdition.answer(direction, identifier).entry
+    Edition::Long.answer(direction, identifier).entry
 }
 
 fn row(rule: Rule, slot: u8, companions: Companions) -> Option<Row> {
@@ -93,7 +93,7 @@ fn layers(rt: HostRuntime) -> Result<(), Fail> {
     let order = row(Rule::StrikeOrder(code), 9, Companions::None);
     let home = OperatorLayer {
         code,
-        below: LongEdition,
+        below: Edition::Long,
     };
     assert_eq!(rt; home.answer(Direction::ToModem, 0xFF01).entry, order);
     assert_eq!(rt; home.answer(Direction::ToNetwork, 0xFF01).entry, None);

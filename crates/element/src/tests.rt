@@ -4,7 +4,7 @@ ghost use Rattle.std.proofs.Common.{rules};
 ghost use Rattle.std.specs.Prelude.{None};
 
 use crate::{Cursor, ReaderFault, Whole, read};
-use catalogue::{Answer, Catalogue, Direction, Layer, LongEdition};
+use catalogue::{Answer, Catalogue, Direction, Edition, Layer};
 use std::test::Fail;
 
 // A catalogue that supports nothing, with length fields of two octets.
@@ -24,7 +24,7 @@ impl Catalogue for Wide {
 }
 
 fn read_long(element: &[u8]) -> Result<Whole, ReaderFault> {
-    read(&LongEdition, Direction::ToModem, element)
+    read(&Edition::Long, Direction::ToModem, element)
 }
 
 fn whole(configuration: u8, units: usize) -> Result<Whole, ReaderFault> {
@@ -107,20 +107,20 @@ fn walks(rt: HostRuntime) -> Result<(), Fail> {
     ];
     let mut cursor = Cursor::open(&element)?;
     let dns = cursor
-        .next_unit(&LongEdition, Direction::ToModem)?
+        .next_unit(&Edition::Long, Direction::ToModem)?
         .ok_or("no first unit")?;
     assert_eq!(rt; dns.place, 3);
     assert_eq!(rt; dns.identifier, 0x000D);
     assert_eq!(rt; dns.start, 6);
     assert!(rt; dns.contents == [0xC0, 0x00, 0x02, 0x35].as_slice());
     let flag = cursor
-        .next_unit(&LongEdition, Direction::ToModem)?
+        .next_unit(&Edition::Long, Direction::ToModem)?
         .ok_or("no second unit")?;
     assert_eq!(rt; flag.place, 10);
     assert_eq!(rt; flag.start, 13);
     assert!(rt;
         cursor
-            .next_unit(&LongEdition, Direction::ToModem)?
+            .next_unit(&Edition::Long, Direction::ToModem)?
             .is_none()
     );
     Ok(())
