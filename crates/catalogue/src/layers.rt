@@ -25,12 +25,12 @@ pub enum CatalogueFault {
     MncTooLarge,
 }
 
-impl CatalogueFault {
-    /// The fault's line in the table of refusals.
-    pub fn refusal(self) -> Refusal
-        ensures answer { result ≡ layers.refusal_of self }
-    {
-        let (number, place) = match self {
+// A fault's line in the table of refusals.
+impl From<CatalogueFault> for Refusal {
+    ghost from_gives = { λ f r. r ≡ layers.refusal_of f };
+
+    fn from(fault: CatalogueFault) -> Refusal {
+        let (number, place) = match fault {
             CatalogueFault::TooManyIdentifiers(given) => (11, given),
             CatalogueFault::MccTooLarge => (12, 1),
             CatalogueFault::WrongDigits => (12, 2),

@@ -1,7 +1,7 @@
 // Some rows of both editions, and the layers' parts.
 use crate::{
     Catalogue, CatalogueFault, Companions, Direction, Edition, IdentifierList, Layer,
-    NarrowingLayer, OperatorCode, OperatorLayer, Row, Rule,
+    NarrowingLayer, OperatorCode, OperatorLayer, Refusal, Row, Rule,
 };
 use std::test::Fail;
 
@@ -80,10 +80,10 @@ fn lists(rt: HostRuntime) -> Result<(), Fail> {
         return Err("a list of 17".into());
     };
     assert_eq!(rt; fault, CatalogueFault::TooManyIdentifiers(17));
-    assert_eq!(rt; fault.refusal().number, 11);
-    assert_eq!(rt; fault.refusal().place, 17);
-    assert_eq!(rt; fault.refusal().layer, Layer::Catalogue);
-    assert_eq!(rt; CatalogueFault::MncTooLarge.refusal().place, 3);
+    assert_eq!(rt; Refusal::from(fault).number, 11);
+    assert_eq!(rt; Refusal::from(fault).place, 17);
+    assert_eq!(rt; Refusal::from(fault).layer, Layer::Catalogue);
+    assert_eq!(rt; Refusal::from(CatalogueFault::MncTooLarge).place, 3);
     Ok(())
 }
 

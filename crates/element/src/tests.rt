@@ -4,7 +4,7 @@ ghost use Rattle.std.proofs.Common.{rules};
 ghost use Rattle.std.specs.Prelude.{None};
 
 use crate::{Cursor, ReaderFault, Whole, read};
-use catalogue::{Answer, Catalogue, Direction, Edition, Layer};
+use catalogue::{Answer, Catalogue, Direction, Edition, Layer, Refusal};
 use std::test::Fail;
 
 // A catalogue that supports nothing, with length fields of two octets.
@@ -156,9 +156,9 @@ fn two_octet_lengths(rt: HostRuntime) {
 
 #[test]
 fn table_of_refusals(rt: HostRuntime) {
-    let refusal = ReaderFault::RunsPast(3).refusal();
+    let refusal = Refusal::from(ReaderFault::RunsPast(3));
     assert_eq!(rt; refusal.number, 5);
     assert_eq!(rt; refusal.place, 3);
     assert_eq!(rt; refusal.layer, Layer::Reader);
-    assert_eq!(rt; ReaderFault::WrongFirst.refusal().place, 0);
+    assert_eq!(rt; Refusal::from(ReaderFault::WrongFirst).place, 0);
 }

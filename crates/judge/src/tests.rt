@@ -6,7 +6,7 @@ ghost use Rattle.std.specs.Prelude.{None};
 use crate::{JudgeFault, JudgedUnit, Verdict, judge};
 use catalogue::{
     Answer, Catalogue, Direction, Edition, IdentifierList, Layer, NarrowingLayer, OperatorCode,
-    OperatorLayer,
+    OperatorLayer, Refusal,
 };
 use element::ReaderFault;
 use std::test::Fail;
@@ -158,14 +158,12 @@ fn declined(rt: HostRuntime) {
         Ok(1)
     );
     assert_eq!(rt; rows[0].verdict, Verdict::Accepted);
-    let refusal = JudgeFault::TooFewRows(1).refusal();
+    let refusal = Refusal::from(JudgeFault::TooFewRows(1));
     assert_eq!(rt; refusal.number, 9);
     assert_eq!(rt; refusal.place, 1);
     assert_eq!(rt; refusal.layer, Layer::Reader);
     assert_eq!(rt;
-        JudgeFault::Reader(ReaderFault::RunsPast(3))
-            .refusal()
-            .number,
+        Refusal::from(JudgeFault::Reader(ReaderFault::RunsPast(3))).number,
         5
     );
 }

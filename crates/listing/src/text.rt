@@ -78,7 +78,7 @@ fn push_units<C: Catalogue>(
 fn list_fault(heap: Global, fault: ReaderFault) -> Result<String, AllocError>
     ensures answer { IfOk result (λ s. string_bytes s ≡ listing.ended (lines.fault_line (refusal_of fault))) }
 {
-    let mut text = fault_line(heap, fault.refusal())?;
+    let mut text = fault_line(heap, fault.into())?;
     text.push('\n')?;
     Ok(text)
 }
