@@ -1,5 +1,6 @@
 -- The operator layer and the narrowing layer, over any catalogue, and when the part that each is made from is declined.
-use Rattle.std.specs.Prelude.{ℕ, ◌+◌, ◌-◌, ◌*◌, ◌/◌, ◌%◌, ◌^◌, Bool, false, cond, ◌||◌, List, [], ◌∷◌, length, take, None, Ok, Err, Result, ◌==◌, nat_le, nat_lt}
+use Rattle.std.specs.Prelude.{ℕ, ◌+◌, ◌-◌, ◌*◌, ◌/◌, ◌%◌, ◌^◌, Bool, cond, ◌||◌, List, length, take, None, Ok, Err, Result, ◌==◌, nat_le, nat_lt}
+use Rattle.std.specs.List.{list_any}
 use Rattle.catalogue.specs.declared.Direction.TheVariants.{ToNetwork, ToModem}
 use Rattle.catalogue.specs.declared.Rule.TheVariants.{StrikeOrder}
 use Rattle.catalogue.specs.declared.Companions.{Companions}
@@ -63,8 +64,7 @@ with_operator o m ToNetwork i = m ToNetwork i
 with_operator o m ToModem i = cond (i == 0xFF01) (strike_answer o) (m ToModem i)
 
 abbrev pub among : List ℕ → ℕ → Bool
-among [] i = false
-among (x ∷ xs) i = x == i || among xs i
+among xs i = list_any (λ x. x == i) xs
 
 -- the identifiers listed are answered from below; every other is unsupported, its width from below
 abbrev pub narrowed_to : List ℕ → Meaning → Meaning

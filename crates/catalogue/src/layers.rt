@@ -104,18 +104,6 @@ fn octets_of(mcc: u16, mnc: u16, digits: u8) -> OperatorCode
     }
 }
 
-// Whether an identifier stands among others.
-fn is_among(identifiers: &[u16], identifier: u16) -> bool
-    ensures answer { result ≡ layers.among identifiers.now identifier }
-{
-    for one in identifiers {
-        if *one == identifier {
-            return true;
-        }
-    }
-    false
-}
-
 /// The identifiers that a narrowing layer lets through.
 #[derive(Clone, Copy)]
 pub struct IdentifierList {
@@ -186,7 +174,7 @@ impl<C: Catalogue> Catalogue for NarrowingLayer<C> {
     // The width is that of the catalogue below, also where the identifier is not listed: units are cut alike.
     fn answer(&self, direction: Direction, identifier: u16) -> Answer {
         let below = self.below.answer(direction, identifier);
-        if is_among(listed(&self.list), identifier) {
+        if listed(&self.list).contains(&identifier) {
             below
         } else {
             Answer {
