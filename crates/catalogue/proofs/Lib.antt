@@ -1,3 +1,2 @@
 pub mod Tables
 mod Codes
-mod Among

@@ -1,22 +1,17 @@
 -- Tables one after the other: what the first does not list is looked up in the second.
-use Rattle.std.proofs.Common.{◌≡◌, ℕ, true, false, cond, eqb, List, [], ◌∷◌, ◌++◌, refl}
+use Rattle.std.specs.Option.{option_or}
+use Rattle.std.proofs.Common.{◌≡◌, ℕ, true, false, cond, eqb, List, [], ◌∷◌, ◌++◌, Some, refl}
 use Rattle.catalogue.specs.declared.Direction.{Direction}
 use Rattle.catalogue.specs.declared.Direction.TheVariants.{ToNetwork, ToModem}
-use Rattle.catalogue.specs.declared.Entry.{Entry}
-use Rattle.catalogue.specs.declared.Entry.TheVariants.{Unsupported, Listed}
 use Rattle.catalogue.specs.Editions.{Line, look_up, short_to_network, short_to_modem, added_to_network, added_to_modem, short, added, long}
 
-abbrev pub or_else : Entry → Entry → Entry
-or_else Unsupported e = e
-or_else (Listed r) e = Listed r
-
-look_up-++ : (ks ls : List Line) (i : ℕ) → look_up (ks ++ ls) i ≡ or_else (look_up ks i) (look_up ls i)
+look_up-++ : (ks ls : List Line) (i : ℕ) → look_up (ks ++ ls) i ≡ option_or (look_up ks i) (look_up ls i)
 look_up-++ [] ls i = refl
 look_up-++ (k ∷ ks) ls i =
     let more = look_up-++ ks ls i in
-    elim (eqb k.identifier i) as (λ t. cond t (Listed k.row) (look_up (ks ++ ls) i) ≡ or_else (cond t (Listed k.row) (look_up ks i)) (look_up ls i)) [ true ↦ refl | false ↦ more ]
+    elim (eqb k.identifier i) as (λ t. cond t (Some k.row) (look_up (ks ++ ls) i) ≡ option_or (cond t (Some k.row) (look_up ks i)) (look_up ls i)) [ true ↦ refl | false ↦ more ]
 
 -- the long edition is the short one and, where that lists nothing, the additions
-pub long_is : (d : Direction) (i : ℕ) → (long d i).entry ≡ or_else (short d i).entry (added d i).entry
+pub long_is : (d : Direction) (i : ℕ) → (long d i).entry ≡ option_or (short d i).entry (added d i).entry
 long_is ToNetwork i = look_up-++ short_to_network added_to_network i
 long_is ToModem i = look_up-++ short_to_modem added_to_modem i

@@ -1,20 +1,20 @@
 -- The short and the long edition, as tables.
-use Rattle.std.specs.Prelude.{ℕ, cond, List, [], ◌∷◌, ◌++◌, ◌==◌}
+use Rattle.std.specs.Prelude.{ℕ, cond, List, [], ◌∷◌, ◌++◌, Some, None, Option, ◌==◌}
 use Rattle.catalogue.specs.declared.Direction.TheVariants.{ToNetwork, ToModem}
 use Rattle.catalogue.specs.declared.Rule.{Rule}
 use Rattle.catalogue.specs.declared.Rule.TheVariants.{Empty, Ipv4, Ipv6, Prefix, OneOctet, Mode, Indicator, Number, Any, PppPacket}
 use Rattle.catalogue.specs.declared.Companions.{Companions}
-use Rattle.catalogue.specs.declared.Companions.TheVariants.{None, Two}
+use Rattle.catalogue.specs.declared.Companions.TheVariants.{Two}
 use Rattle.catalogue.specs.declared.Row.{Row}
-use Rattle.catalogue.specs.declared.Entry.{Entry}
-use Rattle.catalogue.specs.declared.Entry.TheVariants.{Unsupported, Listed}
+use Rattle.catalogue.specs.declared.editions.Edition.{Edition}
+use Rattle.catalogue.specs.declared.editions.Edition.TheVariants.{Short, Long}
 use Rattle.catalogue.specs.Meaning.{Meaning, answer}
 
 abbrev pub row_of : Rule → ℕ → Companions → Row
 row_of r s k = record { rule = r; slot = s; companions = k }
 
-abbrev pub listed : Rule → ℕ → Companions → Entry
-listed r s k = Listed (row_of r s k)
+abbrev pub listed : Rule → ℕ → Companions → Option Row
+listed r s k = Some (row_of r s k)
 
 pub record Line : Type 0 where
   pub identifier : ℕ
@@ -25,11 +25,11 @@ line i r s k = record { identifier = i; row = row_of r s k }
 
 -- a row of slot 0 with no companions
 abbrev pub plain : ℕ → Rule → Line
-plain i r = line i r 0 None
+plain i r = line i r 0 Companions.None
 
 -- a row whose values are kept in a slot
 abbrev pub kept : ℕ → Rule → ℕ → Line
-kept i r s = line i r s None
+kept i r s = line i r s Companions.None
 
 -- both ways, in both editions
 abbrev pub shared : List Line
@@ -119,9 +119,9 @@ abbrev pub long_to_modem : List Line
 long_to_modem = short_to_modem ++ added_to_modem
 
 -- the row of an identifier; what no line names is unsupported
-abbrev pub look_up : List Line → ℕ → Entry
-look_up [] i = Unsupported
-look_up (l ∷ ls) i = cond (l.identifier == i) (Listed l.row) (look_up ls i)
+abbrev pub look_up : List Line → ℕ → Option Row
+look_up [] i = None
+look_up (l ∷ ls) i = cond (l.identifier == i) (Some l.row) (look_up ls i)
 
 -- an edition has width 1 throughout
 abbrev pub edition : List Line → List Line → Meaning
@@ -136,3 +136,7 @@ added = edition added_to_network added_to_modem
 
 abbrev pub long : Meaning
 long = edition long_to_network long_to_modem
+
+abbrev pub meaning_of : Edition → Meaning
+meaning_of Short = short
+meaning_of Long = long

@@ -1,33 +1,32 @@
 -- The three laws that every catalogue keeps.
-use Rattle.std.specs.Prelude.{◌≡◌, ℕ, ◌<◌, ◌⊎◌}
+use Rattle.std.specs.Prelude.{◌≡◌, ℕ, ◌<◌, ◌⊎◌, Some, None, Option}
 use Rattle.catalogue.specs.declared.Direction.{Direction}
 use Rattle.catalogue.specs.declared.Companions.{Companions}
-use Rattle.catalogue.specs.declared.Companions.TheVariants.{None, One, Two}
-use Rattle.catalogue.specs.declared.Entry.{Entry}
-use Rattle.catalogue.specs.declared.Entry.TheVariants.{Unsupported, Listed}
+use Rattle.catalogue.specs.declared.Companions.TheVariants.{One, Two}
+use Rattle.catalogue.specs.declared.Row.{Row}
 use Rattle.catalogue.specs.Meaning.{Meaning}
 use Rattle.catalogue.specs.Slots.{RuleOfSlot}
 
 -- the identifier i is named among the companions
 abbrev pub Names : Companions → ℕ → Type 0
-Names None i = ⊥
+Names Companions.None i = ⊥
 Names (One a) i = a ≡ i
 Names (Two a b) i = (a ≡ i) ⊎ (b ≡ i)
 
 -- the row, if any, names i as a companion
-abbrev pub NamesCompanion : Entry → ℕ → Type 0
-NamesCompanion Unsupported i = ⊥
-NamesCompanion (Listed r) i = Names r.companions i
+abbrev pub NamesCompanion : Option Row → ℕ → Type 0
+NamesCompanion None i = ⊥
+NamesCompanion (Some r) i = Names r.companions i
 
 -- the row, if any, has slot 0 and no companions
-abbrev pub Plain : Entry → Type 0
-Plain Unsupported = Unit {0}
-Plain (Listed r) = (r.slot ≡ 0) × (r.companions ≡ None)
+abbrev pub Plain : Option Row → Type 0
+Plain None = Unit {0}
+Plain (Some r) = (r.slot ≡ 0) × (r.companions ≡ Companions.None)
 
 -- the row, if any, has slot 0 or its slot's rule
-abbrev pub SlotKept : Entry → Type 0
-SlotKept Unsupported = Unit {0}
-SlotKept (Listed r) = (r.slot ≡ 0) ⊎ RuleOfSlot r.slot r.rule
+abbrev pub SlotKept : Option Row → Type 0
+SlotKept None = Unit {0}
+SlotKept (Some r) = (r.slot ≡ 0) ⊎ RuleOfSlot r.slot r.rule
 
 -- a length field has one octet or two
 abbrev pub OneOrTwo : ℕ → Type 0

@@ -1,9 +1,9 @@
 -- The operator layer and the narrowing layer, over any catalogue, and when the part that each is made from is declined.
-use Rattle.std.specs.Prelude.{ℕ, ◌+◌, ◌-◌, ◌*◌, ◌/◌, ◌%◌, ◌^◌, Bool, false, cond, ◌||◌, List, [], ◌∷◌, length, take, Ok, Err, Result, ◌==◌, nat_le, nat_lt}
+use Rattle.std.specs.Prelude.{ℕ, ◌+◌, ◌-◌, ◌*◌, ◌/◌, ◌%◌, ◌^◌, Bool, cond, ◌||◌, List, length, take, None, Ok, Err, Result, ◌==◌, nat_le, nat_lt}
+use Rattle.std.specs.List.{list_any}
 use Rattle.catalogue.specs.declared.Direction.TheVariants.{ToNetwork, ToModem}
 use Rattle.catalogue.specs.declared.Rule.TheVariants.{StrikeOrder}
-use Rattle.catalogue.specs.declared.Companions.TheVariants.{None}
-use Rattle.catalogue.specs.declared.Entry.TheVariants.{Unsupported}
+use Rattle.catalogue.specs.declared.Companions.{Companions}
 use Rattle.catalogue.specs.declared.Answer.{Answer}
 use Rattle.catalogue.specs.declared.Layer.TheVariants.{Catalogue}
 use Rattle.catalogue.specs.declared.Refusal.{Refusal}
@@ -56,7 +56,7 @@ operator_code mcc mnc digits =
 
 -- the strike order of an operator is kept in slot 9
 abbrev pub strike_answer : OperatorCode → Answer
-strike_answer o = answer 1 (listed (StrikeOrder o) 9 None)
+strike_answer o = answer 1 (listed (StrikeOrder o) 9 Companions.None)
 
 -- FF01 to modem is the operator's strike order; all else is answered from below
 abbrev pub with_operator : OperatorCode → Meaning → Meaning
@@ -64,12 +64,11 @@ with_operator o m ToNetwork i = m ToNetwork i
 with_operator o m ToModem i = cond (i == 0xFF01) (strike_answer o) (m ToModem i)
 
 abbrev pub among : List ℕ → ℕ → Bool
-among [] i = false
-among (x ∷ xs) i = x == i || among xs i
+among xs i = list_any (λ x. x == i) xs
 
 -- the identifiers listed are answered from below; every other is unsupported, its width from below
 abbrev pub narrowed_to : List ℕ → Meaning → Meaning
-narrowed_to xs m d i = cond (among xs i) (m d i) (answer (m d i).width Unsupported)
+narrowed_to xs m d i = cond (among xs i) (m d i) (answer (m d i).width None)
 
 -- the identifiers of a list
 abbrev pub identifiers_of : IdentifierList → List ℕ

@@ -1,10 +1,9 @@
 -- Both layers keep the laws of what lies below. The impls name these lemmas as their proofs, so they stand in specs/.
-use Rattle.std.specs.Prelude.{ℕ, ◌<◌, List, ◌==◌, refl}
+use Rattle.std.specs.Prelude.{ℕ, ◌<◌, List, None, ◌==◌, refl}
 use Rattle.std.proofs.Common.{sym, subst, inl, inr, arith}
 use Rattle.std.proofs.lemmas.Bool.{cond_both, cond-false, ne_eqb}
 use Rattle.catalogue.specs.declared.Direction.{Direction}
 use Rattle.catalogue.specs.declared.Direction.TheVariants.{ToNetwork, ToModem}
-use Rattle.catalogue.specs.declared.Entry.TheVariants.{Unsupported}
 use Rattle.catalogue.specs.declared.Answer.{Answer}
 use Rattle.catalogue.specs.declared.OperatorCode.{OperatorCode}
 use Rattle.catalogue.specs.Meaning.{Meaning, answer}
@@ -36,8 +35,8 @@ operator_lawful o m law = record { width = wide; slot = slots; companion = named
 pub narrowing_lawful : (xs : List ℕ) (m : Meaning) → Lawful m → Lawful (narrowed_to xs m)
 narrowing_lawful xs m law = record { width = wide; slot = slots; companion = named }
   where
-    either : (P : Answer → Type 0) (d : Direction) (i : ℕ) → P (m d i) → P (answer (m d i).width Unsupported) → P (narrowed_to xs m d i)
-    either P d i h k = cond_both (among xs i) (m d i) (answer (m d i).width Unsupported) P (λ _. h) (λ _. k)
+    either : (P : Answer → Type 0) (d : Direction) (i : ℕ) → P (m d i) → P (answer (m d i).width None) → P (narrowed_to xs m d i)
+    either P d i h k = cond_both (among xs i) (m d i) (answer (m d i).width None) P (λ _. h) (λ _. k)
 
     wide : (d : Direction) (i : ℕ) → OneOrTwo (narrowed_to xs m d i).width
     wide d i = either (λ a. OneOrTwo a.width) d i (law.width d i) (law.width d i)

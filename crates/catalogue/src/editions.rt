@@ -1,48 +1,41 @@
 // The short and the long edition. Each decides a row by ranges of identifiers, with the direction as a guard.
 ghost use Rattle.std.specs.Prelude.{◌≡◌};
 ghost use Rattle.catalogue.specs.Editions as tables;
+ghost use Rattle.catalogue.specs.declared.editions.Edition.TheVariants.{Short, Long};
 ghost use Rattle.std.proofs.Common.{rules};
 
-use crate::{Answer, Catalogue, Companions, Direction, Entry, Row, Rule};
+use crate::{Answer, Catalogue, Companions, Direction, Row, Rule};
 
-/// The identifiers of an earlier text of the standard's table, whose containers end at 0011.
-#[derive(Clone, Copy)]
-pub struct ShortEdition;
-
-/// The identifiers of a later text, whose containers end at 0022: the short edition and its additions.
-#[derive(Clone, Copy)]
-pub struct LongEdition;
+/// The two texts of the standard's table.
+#[derive(Clone, Copy, PartialEq, Debug)]
+pub enum Edition {
+    /// An earlier text, whose containers end at 0011.
+    Short,
+    /// A later text, whose containers end at 0022: the short edition and its additions.
+    Long,
+}
 
 /// Both editions have length fields of one octet throughout.
 const WIDTH: u8 = 1;
 
-impl Catalogue for ShortEdition {
-    ghost meaning = { λ _. tables.short };
+impl Catalogue for Edition {
+    ghost meaning = { tables.meaning_of };
 
-    ghost lawful = { Prim.search rules };
+    ghost lawful = { elim [ Short ↦ Prim.search rules | Long ↦ Prim.search rules ] };
 
     fn answer(&self, direction: Direction, identifier: u16) -> Answer {
+        let entry = match self {
+            Edition::Short => short_row(direction, identifier),
+            Edition::Long => long_row(direction, identifier),
+        };
         Answer {
             width: WIDTH,
-            entry: short_entry(direction, identifier),
+            entry,
         }
     }
 }
 
-impl Catalogue for LongEdition {
-    ghost meaning = { λ _. tables.long };
-
-    ghost lawful = { Prim.search rules };
-
-    fn answer(&self, direction: Direction, identifier: u16) -> Answer {
-        Answer {
-            width: WIDTH,
-            entry: long_entry(direction, identifier),
-        }
-    }
-}
-
-fn short_entry(direction: Direction, identifier: u16) -> Entry
+fn short_row(direction: Direction, identifier: u16) -> Option<Row>
     ensures answer { result ≡ (tables.short direction identifier).entry }
 {
     let to_network = direction == Direction::ToNetwork;
@@ -62,17 +55,17 @@ fn short_entry(direction: Direction, identifier: u16) -> Entry
         0x000F | 0x0011 if !to_network => row(Rule::Empty, 0),
         0x0010 if !to_network => row(Rule::Number, 6),
         0x8021 | 0xC021 | 0xC023 | 0xC223 => row(Rule::PppPacket, 0),
-        _ => Entry::Unsupported,
+        _ => None,
     }
 }
 
 // The identifiers that the long edition adds.
-fn added_entry(direction: Direction, identifier: u16) -> Entry
+fn added_row(direction: Direction, identifier: u16) -> Option<Row>
     ensures answer { result ≡ (tables.added direction identifier).entry }
 {
     let to_network = direction == Direction::ToNetwork;
     match identifier {
-        0x0012 if to_network => Entry::Listed(Row {
+        0x0012 if to_network => Some(Row {
             rule: Rule::Empty,
             slot: 0,
             companions: Companions::Two(0x0001, 0x000C),
@@ -85,24 +78,22 @@ fn added_entry(direction: Direction, identifier: u16) -> Entry
         0x0016 | 0x0019 | 0x001B..=0x001D | 0x001F if !to_network => row(Rule::Any, 0),
         0x0013 | 0x0018 => row(Rule::Empty, 0),
         0x0014 => row(Rule::Indicator, 0),
-        _ => Entry::Unsupported,
+        _ => None,
     }
 }
 
-fn long_entry(direction: Direction, identifier: u16) -> Entry
+#[tactic(auto, using(crate::proofs::Tables::long_is))]
+fn long_row(direction: Direction, identifier: u16) -> Option<Row>
     ensures answer { result ≡ (tables.long direction identifier).entry }
 {
-    match short_entry(direction, identifier) {
-        Entry::Unsupported => added_entry(direction, identifier),
-        Entry::Listed(row) => Entry::Listed(row),
-    }
+    short_row(direction, identifier).or_else(|| added_row(direction, identifier))
 }
 
 // A row with no companions.
-fn row(rule: Rule, slot: u8) -> Entry
+fn row(rule: Rule, slot: u8) -> Option<Row>
     ensures answer { result ≡ tables.listed rule slot Companions.None }
 {
-    Entry::Listed(Row {
+    Some(Row {
         rule,
         slot,
         companions: Companions::None,

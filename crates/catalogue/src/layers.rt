@@ -4,9 +4,7 @@ ghost use Rattle.catalogue.specs.Layers as layers;
 ghost use Rattle.catalogue.specs.Operators as operators;
 ghost use Rattle.catalogue.specs.OverAny.{operator_lawful, narrowing_lawful};
 
-use crate::{
-    Answer, Catalogue, Companions, Direction, Entry, Layer, OperatorCode, Refusal, Row, Rule,
-};
+use crate::{Answer, Catalogue, Companions, Direction, Layer, OperatorCode, Refusal, Row, Rule};
 
 /// The most identifiers of a narrowing list.
 pub const MOST_IDENTIFIERS: usize = 16;
@@ -27,12 +25,12 @@ pub enum CatalogueFault {
     MncTooLarge,
 }
 
-impl CatalogueFault {
-    /// The fault's line in the table of refusals.
-    pub fn refusal(self) -> Refusal
-        ensures answer { result ≡ layers.refusal_of self }
-    {
-        let (number, place) = match self {
+// A fault's line in the table of refusals.
+impl From<CatalogueFault> for Refusal {
+    ghost from_gives = { λ f r. r ≡ layers.refusal_of f };
+
+    fn from(fault: CatalogueFault) -> Refusal {
+        let (number, place) = match fault {
             CatalogueFault::TooManyIdentifiers(given) => (11, given),
             CatalogueFault::MccTooLarge => (12, 1),
             CatalogueFault::WrongDigits => (12, 2),
@@ -106,18 +104,6 @@ fn octets_of(mcc: u16, mnc: u16, digits: u8) -> OperatorCode
     }
 }
 
-// Whether an identifier stands among others.
-fn is_among(identifiers: &[u16], identifier: u16) -> bool
-    ensures answer { result ≡ layers.among identifiers.now identifier }
-{
-    for one in identifiers {
-        if *one == identifier {
-            return true;
-        }
-    }
-    false
-}
-
 /// The identifiers that a narrowing layer lets through.
 #[derive(Clone, Copy)]
 pub struct IdentifierList {
@@ -188,12 +174,12 @@ impl<C: Catalogue> Catalogue for NarrowingLayer<C> {
     // The width is that of the catalogue below, also where the identifier is not listed: units are cut alike.
     fn answer(&self, direction: Direction, identifier: u16) -> Answer {
         let below = self.below.answer(direction, identifier);
-        if is_among(listed(&self.list), identifier) {
+        if listed(&self.list).contains(&identifier) {
             below
         } else {
             Answer {
                 width: below.width,
-                entry: Entry::Unsupported,
+                entry: None,
             }
         }
     }
@@ -216,7 +202,7 @@ fn strike_answer(code: OperatorCode) -> Answer
 {
     Answer {
         width: 1,
-        entry: Entry::Listed(Row {
+        entry: Some(Row {
             rule: Rule::StrikeOrder(code),
             slot: 9,
             companions: Companions::None,

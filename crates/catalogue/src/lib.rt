@@ -11,7 +11,7 @@ mod layers;
 #[cfg(test)]
 mod tests;
 
-pub use editions::{LongEdition, ShortEdition};
+pub use editions::Edition;
 pub use layers::{
     CatalogueFault, IdentifierList, MOST_IDENTIFIERS, NarrowingLayer, OperatorLayer, STRIKE_ORDER,
 };
@@ -92,18 +92,13 @@ pub struct Row {
     pub companions: Companions,
 }
 
-/// What a catalogue has for an identifier in a direction.
-#[derive(Clone, Copy, PartialEq, Debug)]
-pub enum Entry {
-    Unsupported,
-    Listed(Row),
-}
-
-/// A catalogue's answer: how many octets the length field has, and the row if there is one.
+/// What a catalogue answers for an identifier in a direction.
 #[derive(Clone, Copy, PartialEq, Debug)]
 pub struct Answer {
+    /// How many octets the length field has.
     pub width: u8,
-    pub entry: Entry,
+    /// The row, if the identifier is supported in that direction.
+    pub entry: Option<Row>,
 }
 
 /// One fixed answer for each direction and identifier. Asking changes nothing and is never declined.

@@ -1,20 +1,20 @@
 // Some rows of both editions, and the layers' parts.
 use crate::{
-    Catalogue, CatalogueFault, Companions, Direction, Entry, IdentifierList, Layer, LongEdition,
-    NarrowingLayer, OperatorCode, OperatorLayer, Row, Rule, ShortEdition,
+    Catalogue, CatalogueFault, Companions, Direction, Edition, IdentifierList, Layer,
+    NarrowingLayer, OperatorCode, OperatorLayer, Refusal, Row, Rule,
 };
 use std::test::Fail;
 
-fn short(direction: Direction, identifier: u16) -> Entry {
-    ShortEdition.answer(direction, identifier).entry
+fn short(direction: Direction, identifier: u16) -> Option<Row> {
+    Edition::Short.answer(direction, identifier).entry
 }
 
-fn long(direction: Direction, identifier: u16) -> Entry {
-    LongEdition.answer(direction, identifier).entry
+fn long(direction: Direction, identifier: u16) -> Option<Row> {
+    Edition::Long.answer(direction, identifier).entry
 }
 
-fn row(rule: Rule, slot: u8, companions: Companions) -> Entry {
-    Entry::Listed(Row {
+fn row(rule: Rule, slot: u8, companions: Companions) -> Option<Row> {
+    Some(Row {
         rule,
         slot,
         companions,
@@ -28,16 +28,16 @@ fn shared_rows(rt: HostRuntime) {
     assert_eq!(rt; long(Direction::ToModem, 0x000D), dns);
     let request = row(Rule::Empty, 0, Companions::None);
     assert_eq!(rt; short(Direction::ToNetwork, 0x000D), request);
-    assert_eq!(rt; long(Direction::ToNetwork, 0x0006), Entry::Unsupported);
+    assert_eq!(rt; long(Direction::ToNetwork, 0x0006), None);
 }
 
 #[test]
 fn added_rows(rt: HostRuntime) {
     let reselection = row(Rule::Empty, 0, Companions::Two(0x0001, 0x000C));
     assert_eq!(rt; long(Direction::ToNetwork, 0x0012), reselection);
-    assert_eq!(rt; long(Direction::ToModem, 0x0012), Entry::Unsupported);
-    assert_eq!(rt; short(Direction::ToNetwork, 0x0012), Entry::Unsupported);
-    assert_eq!(rt; long(Direction::ToModem, 0xFF01), Entry::Unsupported);
+    assert_eq!(rt; long(Direction::ToModem, 0x0012), None);
+    assert_eq!(rt; short(Direction::ToNetwork, 0x0012), None);
+    assert_eq!(rt; long(Direction::ToModem, 0xFF01), None);
 }
 
 fn code(first: u8, second: u8, third: u8) -> Result<OperatorCode, CatalogueFault> {
@@ -80,10 +80,10 @@ fn lists(rt: HostRuntime) -> Result<(), Fail> {
         return Err("a list of 17".into());
     };
     assert_eq!(rt; fault, CatalogueFault::TooManyIdentifiers(17));
-    assert_eq!(rt; fault.refusal().number, 11);
-    assert_eq!(rt; fault.refusal().place, 17);
-    assert_eq!(rt; fault.refusal().layer, Layer::Catalogue);
-    assert_eq!(rt; CatalogueFault::MncTooLarge.refusal().place, 3);
+    assert_eq!(rt; Refusal::from(fault).number, 11);
+    assert_eq!(rt; Refusal::from(fault).place, 17);
+    assert_eq!(rt; Refusal::from(fault).layer, Layer::Catalogue);
+    assert_eq!(rt; Refusal::from(CatalogueFault::MncTooLarge).place, 3);
     Ok(())
 }
 
@@ -93,21 +93,15 @@ fn layers(rt: HostRuntime) -> Result<(), Fail> {
     let order = row(Rule::StrikeOrder(code), 9, Companions::None);
     let home = OperatorLayer {
         code,
-        below: LongEdition,
+        below: Edition::Long,
     };
     assert_eq!(rt; home.answer(Direction::ToModem, 0xFF01).entry, order);
-    assert_eq!(rt;
-        home.answer(Direction::ToNetwork, 0xFF01).entry,
-        Entry::Unsupported
-    );
+    assert_eq!(rt; home.answer(Direction::ToNetwork, 0xFF01).entry, None);
     let narrow = NarrowingLayer {
         list: IdentifierList::new(&[0x000D, 0xFF01])?,
         below: home,
     };
     assert_eq!(rt; narrow.answer(Direction::ToModem, 0xFF01).entry, order);
-    assert_eq!(rt;
-        narrow.answer(Direction::ToModem, 0x000C).entry,
-        Entry::Unsupported
-    );
+    assert_eq!(rt; narrow.answer(Direction::ToModem, 0x000C).entry, None);
     Ok(())
 }

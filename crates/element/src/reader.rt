@@ -32,12 +32,12 @@ pub struct Whole<'a, C: Catalogue> {
     pub units: Units<'a, C>,
 }
 
-impl ReaderFault {
-    /// The fault's line in the table of refusals.
-    pub fn refusal(self) -> Refusal
-        ensures answer { result ≡ refusals.refusal_of self }
-    {
-        let (number, place) = match self {
+// A fault's line in the table of refusals.
+impl From<ReaderFault> for Refusal {
+    ghost from_gives = { λ f r. r ≡ refusals.refusal_of f };
+
+    fn from(fault: ReaderFault) -> Refusal {
+        let (number, place) = match fault {
             ReaderFault::TooShort(given) => (1, given),
             ReaderFault::WrongFirst => (2, 0),
             ReaderFault::LengthDiffers(given) => (3, given),

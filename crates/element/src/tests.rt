@@ -1,24 +1,24 @@
 // The reader on small inputs and at its edges.
 ghost use Rattle.catalogue.specs.Meaning.{answer};
-ghost use Rattle.catalogue.specs.declared.Entry.TheVariants.{Unsupported};
 ghost use Rattle.std.proofs.Common.{rules};
+ghost use Rattle.std.specs.Prelude.{None};
 
 use crate::{Cursor, ReaderFault, read};
-use catalogue::{Answer, Catalogue, Direction, Entry, Layer, LongEdition};
+use catalogue::{Answer, Catalogue, Direction, Edition, Layer, Refusal};
 use std::test::Fail;
 
 // A catalogue that supports nothing, with length fields of two octets.
 struct Wide;
 
 impl Catalogue for Wide {
-    ghost meaning = { λ _ d i. answer 2 Unsupported };
+    ghost meaning = { λ _ d i. answer 2 None };
 
     ghost lawful = { Prim.search rules };
 
     fn answer(&self, direction: Direction, identifier: u16) -> Answer {
         Answer {
             width: 2,
-            entry: Entry::Unsupported,
+            entry: None,
         }
     }
 }
@@ -30,7 +30,7 @@ fn read_by<C: Catalogue>(catalogue: &C, element: &[u8]) -> Result<(u8, usize), R
 }
 
 fn read_long(element: &[u8]) -> Result<(u8, usize), ReaderFault> {
-    read_by(&LongEdition, element)
+    read_by(&Edition::Long, element)
 }
 
 fn whole(configuration: u8, units: usize) -> Result<(u8, usize), ReaderFault> {
@@ -108,7 +108,7 @@ fn walks(rt: HostRuntime) -> Result<(), Fail> {
     let element = [
         0x27, 0x0C, 0x80, 0x00, 0x0D, 0x04, 0xC0, 0x00, 0x02, 0x35, 0x00, 0x02, 0x01, 0xAA,
     ];
-    let mut cursor = Cursor::open(&LongEdition, Direction::ToModem, &element)?;
+    let mut cursor = Cursor::open(&Edition::Long, Direction::ToModem, &element)?;
     let dns = cursor.next_unit()?.ok_or("no first unit")?;
     assert_eq!(rt; dns.place, 3);
     assert_eq!(rt; dns.identifier, 0x000D);
@@ -119,7 +119,7 @@ fn walks(rt: HostRuntime) -> Result<(), Fail> {
     assert_eq!(rt; flag.start, 13);
     assert!(rt; cursor.next_unit()?.is_none());
     // the units of the whole element are the same
-    let mut units = read(&LongEdition, Direction::ToModem, &element)?.units;
+    let mut units = read(&Edition::Long, Direction::ToModem, &element)?.units;
     assert_eq!(rt; units.next(), Some(dns));
     assert_eq!(rt; units.next(), Some(flag));
     assert_eq!(rt; units.next(), None);
@@ -144,9 +144,9 @@ fn two_octet_lengths(rt: HostRuntime) {
 
 #[test]
 fn table_of_refusals(rt: HostRuntime) {
-    let refusal = ReaderFault::RunsPast(3).refusal();
+    let refusal = Refusal::from(ReaderFault::RunsPast(3));
     assert_eq!(rt; refusal.number, 5);
     assert_eq!(rt; refusal.place, 3);
     assert_eq!(rt; refusal.layer, Layer::Reader);
-    assert_eq!(rt; ReaderFault::WrongFirst.refusal().place, 0);
+    assert_eq!(rt; Refusal::from(ReaderFault::WrongFirst).place, 0);
 }

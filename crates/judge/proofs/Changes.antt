@@ -1,12 +1,11 @@
 -- A listed change leaves the verdicts of the units that stand in both elements.
-use Rattle.std.proofs.Common.{◌≡◌, ℕ, Bool, true, false, cond, ◌&&◌, ◌||◌, eqb, List, [], ◌∷◌, ◌++◌, length, sym, refl, ap, ◌∙◌, subst, ap₂, inl, inr}
+use Rattle.std.proofs.Common.{◌≡◌, ℕ, Bool, true, false, cond, ◌&&◌, ◌||◌, eqb, List, [], ◌∷◌, ◌++◌, length, Some, None, Option, sym, refl, ap, ◌∙◌, subst, ap₂, inl, inr}
 use mathlib.Core.Path.{fun_ext}
 use Rattle.std.proofs.lemmas.Bool.{eqb-true}
 use Rattle.catalogue.specs.declared.Direction.{Direction}
 use Rattle.catalogue.specs.declared.Companions.{Companions}
-use Rattle.catalogue.specs.declared.Companions.TheVariants.{None, One, Two}
-use Rattle.catalogue.specs.declared.Entry.{Entry}
-use Rattle.catalogue.specs.declared.Entry.TheVariants.{Unsupported, Listed}
+use Rattle.catalogue.specs.declared.Companions.TheVariants.{One, Two}
+use Rattle.catalogue.specs.declared.Row.{Row}
 use Rattle.catalogue.specs.Meaning.{Meaning}
 use Rattle.catalogue.specs.Laws.{Lawful, Names, NamesCompanion, Plain}
 use Rattle.element.specs.Units.{ElementUnit, unit}
@@ -17,9 +16,9 @@ use Rattle.judge.specs.Verdicts.{is_accepted, TurnedAside, NotRead, checked, com
 use Rattle.judge.proofs.Parts.{from-++, chosen-++, aside_false, fill_none, choose_none, passes_without, passes_swap}
 
 -- a unit with a plain row passes checks 4 and 5
-plain_last : (p : ℕ → Bool) (filled : List ℕ) (e : Entry) → Plain e → last_two (companion_stands_for p e) (full filled (slot_of e)) ≡ Accepted
-plain_last p filled Unsupported h = refl
-plain_last p filled (Listed r) h = ap₂ (λ (s : ℕ) (k : Companions). last_two (companion_stands p k) (full filled s)) h.0 h.1
+plain_last : (p : ℕ → Bool) (filled : List ℕ) (e : Option Row) → Plain e → last_two (companion_stands_for p e) (full filled (slot_of e)) ≡ Accepted
+plain_last p filled None h = refl
+plain_last p filled (Some r) h = ap₂ (λ (s : ℕ) (k : Companions). last_two (companion_stands p k) (full filled s)) h.0 h.1
 
 or_accepted : (v : Verdict) → or_else v Accepted ≡ v
 or_accepted Accepted = refl
@@ -34,13 +33,13 @@ not_passing : (v w : Verdict) → w ≡ Accepted → TurnedAside (or_else v w) �
 not_passing v w e h = aside_false v (subst TurnedAside (ap (or_else v) e ∙ or_accepted v) h)
 
 stands_like : (p q : ℕ → Bool) (k : Companions) → ((i : ℕ) → Names k i → p i ≡ q i) → companion_stands p k ≡ companion_stands q k
-stands_like p q None f = refl
+stands_like p q Companions.None f = refl
 stands_like p q (One a) f = f a refl
 stands_like p q (Two a b) f = ap₂ ◌||◌ (f a (inl refl)) (f b (inr refl))
 
-stands_alike : (p q : ℕ → Bool) (e : Entry) → ((i : ℕ) → NamesCompanion e i → p i ≡ q i) → companion_stands_for p e ≡ companion_stands_for q e
-stands_alike p q Unsupported f = refl
-stands_alike p q (Listed r) f = stands_like p q r.companions f
+stands_alike : (p q : ℕ → Bool) (e : Option Row) → ((i : ℕ) → NamesCompanion e i → p i ≡ q i) → companion_stands_for p e ≡ companion_stands_for q e
+stands_alike p q None f = refl
+stands_alike p q (Some r) f = stands_like p q r.companions f
 
 and_false : (a b : Bool) → (a ≡ true → b ≡ false) → (a && b) ≡ false
 and_false true b f = f refl
@@ -82,9 +81,9 @@ abbrev three : Bool → Bool → Verdict
 three x y = cond x (cond y Accepted WrongValue) WrongLength
 
 -- what checks 1 and 2 refuse, they refuse by the length alone
-checked_same : (e : Entry) (a b : List ℕ) → length a ≡ length b → NotRead (checked e a) → checked e a ≡ checked e b
-checked_same Unsupported a b l h = refl
-checked_same (Listed r) a b l h = go (allowed r.rule (length a)) (right r.rule a) (right r.rule b) (allowed r.rule (length b)) (ap (allowed r.rule) l) h
+checked_same : (e : Option Row) (a b : List ℕ) → length a ≡ length b → NotRead (checked e a) → checked e a ≡ checked e b
+checked_same None a b l h = refl
+checked_same (Some r) a b l h = go (allowed r.rule (length a)) (right r.rule a) (right r.rule b) (allowed r.rule (length b)) (ap (allowed r.rule) l) h
   where
     go : (x y z w : Bool) → x ≡ w → NotRead (three x y) → three x y ≡ three w z
     go true true z w e h = absurd h

@@ -1,13 +1,11 @@
 -- A unit is turned aside by the first check that fails, and accepted if none does.
-use Rattle.std.proofs.Common.{◌≡◌, ℕ, ◌+◌, ◌<◌, ◌≤◌, Bool, true, false, cond, eqb, List, [], ◌∷◌, ◌++◌, map, length, sym, refl, ap, ◌∙◌, inl, inr, arith}
+use Rattle.std.proofs.Common.{◌≡◌, ℕ, ◌+◌, ◌<◌, ◌≤◌, Bool, true, false, cond, eqb, List, [], ◌∷◌, ◌++◌, map, length, Some, None, Option, sym, refl, ap, ◌∙◌, inl, inr, arith}
 use Rattle.std.proofs.lemmas.Bool.{true≢false, false≢true, eqb-true, eq-eqb, and_from, and_parts, or_cases, or_parts, or_from, or_left, or_right, both_ways, cases_Bool}
 use Rattle.std.proofs.lemmas.Bool.Decides.{nat_tests}
 use Rattle.catalogue.specs.declared.Direction.{Direction}
 use Rattle.catalogue.specs.declared.Companions.{Companions}
-use Rattle.catalogue.specs.declared.Companions.TheVariants.{None, One, Two}
+use Rattle.catalogue.specs.declared.Companions.TheVariants.{One, Two}
 use Rattle.catalogue.specs.declared.Row.{Row}
-use Rattle.catalogue.specs.declared.Entry.{Entry}
-use Rattle.catalogue.specs.declared.Entry.TheVariants.{Unsupported, Listed}
 use Rattle.catalogue.specs.Meaning.{Meaning}
 use Rattle.catalogue.specs.Laws.{Names}
 use Rattle.element.specs.Units.{ElementUnit}
@@ -26,16 +24,16 @@ three_true true true h = (refl, refl)
 three_true true false h = absurd (false≢true h)
 three_true false b h = absurd (false≢true h)
 
-stands_false : (p : ℕ → Bool) (k : Companions) → companion_stands p k ≡ false → (k ≡ None → ⊥) × ((i : ℕ) → Names k i → p i ≡ false)
-stands_false p None h = absurd (true≢false h)
+stands_false : (p : ℕ → Bool) (k : Companions) → companion_stands p k ≡ false → (k ≡ Companions.None → ⊥) × ((i : ℕ) → Names k i → p i ≡ false)
+stands_false p Companions.None h = absurd (true≢false h)
 stands_false p (One a) h = ((λ e. let z : ◌≡◌ {A = ℕ} 0 1 = cc in omega arith), λ i n. ap p (sym n) ∙ h)
 stands_false p (Two a b) h = (
   (λ e. let z : ◌≡◌ {A = ℕ} 0 1 = cc in omega arith),
   λ i n. elim n [ inl e ↦ ap p (sym e) ∙ (or_parts (p a) (p b) h).0 | inr e ↦ ap p (sym e) ∙ (or_parts (p a) (p b) h).1 ],
 )
 
-stands_none : (p : ℕ → Bool) (k : Companions) → (k ≡ None → ⊥) → ((i : ℕ) → Names k i → p i ≡ false) → companion_stands p k ≡ false
-stands_none p None h f = absurd (h refl)
+stands_none : (p : ℕ → Bool) (k : Companions) → (k ≡ Companions.None → ⊥) → ((i : ℕ) → Names k i → p i ≡ false) → companion_stands p k ≡ false
+stands_none p Companions.None h f = absurd (h refl)
 stands_none p (One a) h f = f a refl
 stands_none p (Two a b) h f = or_from (p a) (p b) (f a (inl refl)) (f b (inr refl))
 
@@ -43,9 +41,9 @@ module _ (m : Meaning) (d : Direction) where
   passes_three : (u : ElementUnit) → is_accepted (checked (entry_of m d u) u.contents) ≡ true → PassesThree m d u
   passes_three u h = go (entry_of m d u) refl h
     where
-      go : (e : Entry) → entry_of m d u ≡ e → is_accepted (checked e u.contents) ≡ true → PassesThree m d u
-      go Unsupported q h = absurd (false≢true h)
-      go (Listed r) q h =
+      go : (e : Option Row) → entry_of m d u ≡ e → is_accepted (checked e u.contents) ≡ true → PassesThree m d u
+      go None q h = absurd (false≢true h)
+      go (Some r) q h =
           let both = three_true (allowed r.rule (length u.contents)) (right r.rule u.contents) h in
           record { row = r; supported = q; length_allowed = both.0; value_right = both.1 }
 
@@ -105,15 +103,15 @@ module _ (m : Meaning) (d : Direction) (before : List ElementUnit) (u : ElementU
   abbrev earlier : List ℕ
   earlier = filled_by m d (met m d all) [] before
 
-  abbrev verdict_by : Entry → Verdict
+  abbrev verdict_by : Option Row → Verdict
   verdict_by e = or_else (checked e u.contents) (last_two (companion_stands_for (passes m d all) e) (full earlier (slot_of e)))
 
   earlier_accepted : (s : ℕ) → accepted_for m d s (verdicts m d all) before ≡ count s earlier
   earlier_accepted s = omega (arith, filled_all m d s (met m d all) [] before u after)
 
-  failed : (e : Entry) → entry_of m d u ≡ e → TurnedAside (verdict_by e) → Fails m d before u after (verdict_by e)
-  failed Unsupported q h = q
-  failed (Listed r) q h = go _ _ _ _ refl refl refl refl h
+  failed : (e : Option Row) → entry_of m d u ≡ e → TurnedAside (verdict_by e) → Fails m d before u after (verdict_by e)
+  failed None q h = q
+  failed (Some r) q h = go _ _ _ _ refl refl refl refl h
     where
       go : (a b c over : Bool) → allowed r.rule (length u.contents) ≡ a → right r.rule u.contents ≡ b → companion_stands (passes m d all) r.companions ≡ c → full earlier r.slot ≡ over → TurnedAside (five a b c over) → Fails m d before u after (five a b c over)
       go true true true true k l n o h =
@@ -127,7 +125,7 @@ module _ (m : Meaning) (d : Direction) (before : List ElementUnit) (u : ElementU
       go false b c over k l n o h = (r, q, k)
 
   -- the number of the verdict, by the tests of the row
-  number : (r : Row) → entry_of m d u ≡ Listed r → number_of (verdict_in m d before u after) ≡ cond (allowed r.rule (length u.contents)) (cond (right r.rule u.contents) (cond (companion_stands (passes m d all) r.companions) (cond (full earlier r.slot) 5 0) 4) 3) 2
+  number : (r : Row) → entry_of m d u ≡ Some r → number_of (verdict_in m d before u after) ≡ cond (allowed r.rule (length u.contents)) (cond (right r.rule u.contents) (cond (companion_stands (passes m d all) r.companions) (cond (full earlier r.slot) 5 0) 4) 3) 2
   number r q = simp (q, five_number)
 
   -- where a check fails, the unit is turned aside, by this check or an earlier one

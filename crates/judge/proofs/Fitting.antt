@@ -5,8 +5,7 @@ use Rattle.std.proofs.lemmas.Bool.{eqb-true, leb-false, ne_eqb, cond-false, cond
 use Rattle.catalogue.specs.declared.Direction.{Direction}
 use Rattle.catalogue.specs.declared.Rule.{Rule}
 use Rattle.catalogue.specs.declared.Rule.TheVariants.{StrikeOrder}
-use Rattle.catalogue.specs.declared.Entry.{Entry}
-use Rattle.catalogue.specs.declared.Entry.TheVariants.{Unsupported, Listed}
+use Rattle.catalogue.specs.declared.Row.{Row}
 use Rattle.catalogue.specs.Meaning.{Meaning}
 use Rattle.catalogue.specs.Laws.{Lawful, SlotKept}
 use Rattle.catalogue.specs.Slots.{SlotLine, slot_table, line_in, RuleBy, RuleOfSlot, octets_by, holds, octets_of}
@@ -103,10 +102,10 @@ allowed_if : (x y : Bool) → is_accepted (cond x (cond y Accepted WrongValue) W
 allowed_if true y h = refl
 allowed_if false y h = h
 
-entry_octets : (e : Entry) → SlotKept e → 0 < slot_of e → (os : List ℕ) → is_accepted (checked e os) ≡ true → length (value_of e os) ≡ octets_of (slot_of e)
-entry_octets Unsupported l pos os h = absurd (omega (arith, pos))
-entry_octets (Listed r) (inl z) pos os h = absurd (omega (arith, pos, z))
-entry_octets (Listed r) (inr l) pos os h = rule_octets r.rule os (allowed_if _ (right r.rule os) h) r.slot l
+entry_octets : (e : Option Row) → SlotKept e → 0 < slot_of e → (os : List ℕ) → is_accepted (checked e os) ≡ true → length (value_of e os) ≡ octets_of (slot_of e)
+entry_octets None l pos os h = absurd (omega (arith, pos))
+entry_octets (Some r) (inl z) pos os h = absurd (omega (arith, pos, z))
+entry_octets (Some r) (inr l) pos os h = rule_octets r.rule os (allowed_if _ (right r.rule os) h) r.slot l
 
 module _ (m : Meaning) (law : Lawful m) (d : Direction) (s : ℕ) (pos : 0 < s) where
   abbrev Right : List (List ℕ) → Type 0

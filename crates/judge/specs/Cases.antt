@@ -3,7 +3,8 @@ use Rattle.std.specs.Prelude.{◌≡◌, ℕ, List, [], ◌∷◌, map, replicat
 use Rattle.catalogue.specs.declared.Direction.{Direction}
 use Rattle.catalogue.specs.declared.Direction.TheVariants.{ToNetwork, ToModem}
 use Rattle.catalogue.specs.declared.Rule.TheVariants.{Empty}
-use Rattle.catalogue.specs.declared.Companions.TheVariants.{None, One}
+use Rattle.catalogue.specs.declared.Companions.{Companions}
+use Rattle.catalogue.specs.declared.Companions.TheVariants.{One}
 use Rattle.catalogue.specs.declared.layers.CatalogueFault.TheVariants.{TooManyIdentifiers, MccTooLarge, WrongDigits, MncTooLarge}
 use Rattle.catalogue.specs.Meaning.{Meaning}
 use Rattle.catalogue.specs.Editions.{line, edition, short, long}
@@ -89,7 +90,7 @@ pub record EachEdition (m : Meaning) : Type 0 where
 
 -- the companion 1 of 2 has a slot, which 3 fills
 abbrev pub companion_with_slot : Meaning
-companion_with_slot = edition [] (line 1 Empty 8 None ∷ line 2 Empty 0 (One 1) ∷ line 3 Empty 8 None ∷ [])
+companion_with_slot = edition [] (line 1 Empty 8 Companions.None ∷ line 2 Empty 0 (One 1) ∷ line 3 Empty 8 Companions.None ∷ [])
 
 -- the companion 1 of 2 has a companion itself
 abbrev pub companion_of_companion : Meaning

@@ -1,10 +1,8 @@
 -- The checks, each by itself, and that a unit's verdict is that of the first check that fails.
-use Rattle.std.specs.Prelude.{◌≡◌, ℕ, ◌<◌, ◌≤◌, true, false, List, ◌∷◌, ◌++◌, map, length, ◌≢◌}
+use Rattle.std.specs.Prelude.{◌≡◌, ℕ, ◌<◌, ◌≤◌, true, false, List, ◌∷◌, ◌++◌, map, length, Some, None, Option, ◌≢◌}
 use Rattle.catalogue.specs.declared.Direction.{Direction}
-use Rattle.catalogue.specs.declared.Companions.TheVariants.{None}
+use Rattle.catalogue.specs.declared.Companions.{Companions}
 use Rattle.catalogue.specs.declared.Row.{Row}
-use Rattle.catalogue.specs.declared.Entry.{Entry}
-use Rattle.catalogue.specs.declared.Entry.TheVariants.{Unsupported, Listed}
 use Rattle.catalogue.specs.Meaning.{Meaning}
 use Rattle.catalogue.specs.Laws.{Names}
 use Rattle.catalogue.specs.Slots.{holds}
@@ -15,13 +13,13 @@ use Rattle.judge.specs.Rules.{allowed, right}
 use Rattle.judge.specs.Verdicts.{number_of, TurnedAside, slot_of, count, chosen, verdicts, verdict_in}
 
 module _ (m : Meaning) (d : Direction) where
-  abbrev pub entry_of : ElementUnit → Entry
+  abbrev pub entry_of : ElementUnit → Option Row
   entry_of u = (m d u.identifier).entry
 
   -- a unit that passes checks 1 to 3: its identifier has a row, whose rule allows its length and takes its value
   pub record PassesThree (u : ElementUnit) : Type 0 where
     pub row : Row
-    pub supported : entry_of u ≡ Listed row
+    pub supported : entry_of u ≡ Some row
     pub length_allowed : allowed row.rule (length u.contents) ≡ true
     pub value_right : right row.rule u.contents ≡ true
 
@@ -44,17 +42,17 @@ module _ (m : Meaning) (d : Direction) where
     abbrev pub Fails : Verdict → Type 0
     Fails Accepted = ⊥
     -- 1: the identifier is unsupported
-    Fails UnsupportedIdentifier = entry_of u ≡ Unsupported
+    Fails UnsupportedIdentifier = entry_of u ≡ None
     -- 2: the length is not allowed
-    Fails WrongLength = (r : Row) × (entry_of u ≡ Listed r) × (allowed r.rule (length u.contents) ≡ false)
+    Fails WrongLength = (r : Row) × (entry_of u ≡ Some r) × (allowed r.rule (length u.contents) ≡ false)
     -- 3: the value is wrong
-    Fails WrongValue = (r : Row) × (entry_of u ≡ Listed r) × (right r.rule u.contents ≡ false)
+    Fails WrongValue = (r : Row) × (entry_of u ≡ Some r) × (right r.rule u.contents ≡ false)
     -- 4: the row has companions, and no unit of the element with a companion's identifier passes checks 1 to 3
     Fails CompanionMissing =
-        (r : Row) × (entry_of u ≡ Listed r) × (r.companions ≢ None) × ((i : ℕ) → Names r.companions i → StandsIn (before ++ u ∷ after) i → ⊥)
+        (r : Row) × (entry_of u ≡ Some r) × (r.companions ≢ Companions.None) × ((i : ℕ) → Names r.companions i → StandsIn (before ++ u ∷ after) i → ⊥)
     -- 5: the row has a slot, and earlier accepted units fill it
     Fails Surplus =
-        (r : Row) × (entry_of u ≡ Listed r) × (0 < r.slot) × (holds r.slot ≤ accepted_for r.slot (verdicts m d (before ++ u ∷ after)) before)
+        (r : Row) × (entry_of u ≡ Some r) × (0 < r.slot) × (holds r.slot ≤ accepted_for r.slot (verdicts m d (before ++ u ∷ after)) before)
 
     -- a unit is turned aside by the first check that fails, and accepted if none does
     pub record FirstToFail : Type 0 where

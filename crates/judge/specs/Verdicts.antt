@@ -1,10 +1,9 @@
 -- The verdicts of an element's units, and the values of those accepted.
-use Rattle.std.specs.Prelude.{ℕ, suc, Bool, true, false, cond, ◌&&◌, ◌||◌, List, [], ◌∷◌, ◌++◌, map, length, ◌==◌, nat_le}
+use Rattle.std.specs.Prelude.{ℕ, suc, Bool, true, false, cond, ◌&&◌, ◌||◌, List, [], ◌∷◌, ◌++◌, map, length, Some, None, Option, ◌==◌, nat_le}
 use Rattle.catalogue.specs.declared.Direction.{Direction}
 use Rattle.catalogue.specs.declared.Companions.{Companions}
-use Rattle.catalogue.specs.declared.Companions.TheVariants.{None, One, Two}
-use Rattle.catalogue.specs.declared.Entry.{Entry}
-use Rattle.catalogue.specs.declared.Entry.TheVariants.{Unsupported, Listed}
+use Rattle.catalogue.specs.declared.Companions.TheVariants.{One, Two}
+use Rattle.catalogue.specs.declared.Row.{Row}
 use Rattle.catalogue.specs.Meaning.{Meaning}
 use Rattle.catalogue.specs.Slots.{holds}
 use Rattle.element.specs.Units.{ElementUnit}
@@ -56,29 +55,29 @@ or_else CompanionMissing v = CompanionMissing
 or_else Surplus v = Surplus
 
 -- checks 1 to 3: the identifier is supported, the length allowed, the value right
-abbrev pub checked : Entry → List ℕ → Verdict
-checked Unsupported os = UnsupportedIdentifier
-checked (Listed r) os = cond (allowed r.rule (length os)) (cond (right r.rule os) Accepted WrongValue) WrongLength
+abbrev pub checked : Option Row → List ℕ → Verdict
+checked None os = UnsupportedIdentifier
+checked (Some r) os = cond (allowed r.rule (length os)) (cond (right r.rule os) Accepted WrongValue) WrongLength
 
 -- check 4, where `passing i` says that some unit with the identifier i passes checks 1 to 3
 abbrev pub companion_stands : (ℕ → Bool) → Companions → Bool
-companion_stands passing None = true
+companion_stands passing Companions.None = true
 companion_stands passing (One a) = passing a
 companion_stands passing (Two a b) = passing a || passing b
 
-abbrev pub companion_stands_for : (ℕ → Bool) → Entry → Bool
-companion_stands_for passing Unsupported = true
-companion_stands_for passing (Listed r) = companion_stands passing r.companions
+abbrev pub companion_stands_for : (ℕ → Bool) → Option Row → Bool
+companion_stands_for passing None = true
+companion_stands_for passing (Some r) = companion_stands passing r.companions
 
 -- the slot of a row; what is unsupported has none
-abbrev pub slot_of : Entry → ℕ
-slot_of Unsupported = 0
-slot_of (Listed r) = r.slot
+abbrev pub slot_of : Option Row → ℕ
+slot_of None = 0
+slot_of (Some r) = r.slot
 
 -- the value by the rule of a row
-abbrev pub value_of : Entry → List ℕ → List ℕ
-value_of Unsupported os = os
-value_of (Listed r) os = value r.rule os
+abbrev pub value_of : Option Row → List ℕ → List ℕ
+value_of None os = os
+value_of (Some r) os = value r.rule os
 
 -- how often the slot s stands among others
 abbrev pub count : ℕ → List ℕ → ℕ
@@ -111,7 +110,7 @@ pub record SlotValue : Type 0 where
   pub slot : ℕ
   pub value : List ℕ
 
-abbrev pub given : Entry → List ℕ → SlotValue
+abbrev pub given : Option Row → List ℕ → SlotValue
 given e os = record { slot = slot_of e; value = value_of e os }
 
 -- the values for the slot s, in order

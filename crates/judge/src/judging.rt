@@ -51,13 +51,13 @@ pub enum JudgeFault {
     TooFewRows(usize),
 }
 
-impl JudgeFault {
-    /// The fault's line in the table of refusals.
-    pub fn refusal(self) -> Refusal
-        ensures answer { result ≡ judging.refusal_of self }
-    {
-        match self {
-            JudgeFault::Reader(fault) => fault.refusal(),
+// A fault's line in the table of refusals.
+impl From<JudgeFault> for Refusal {
+    ghost from_gives = { λ f r. r ≡ judging.refusal_of f };
+
+    fn from(fault: JudgeFault) -> Refusal {
+        match fault {
+            JudgeFault::Reader(fault) => Refusal::from(fault),
             JudgeFault::TooFewRows(needed) => Refusal {
                 number: 9,
                 place: needed,

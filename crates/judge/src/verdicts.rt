@@ -6,7 +6,7 @@ ghost use Rattle.judge.specs.Verdicts as verdicts;
 
 use crate::rooms::Room;
 use crate::rules::{is_allowed, is_right};
-use catalogue::{Catalogue, Companions, Direction, Entry};
+use catalogue::{Catalogue, Companions, Direction, Row};
 use element::{Cursor, PlacedUnit};
 
 /// What became of a unit. All but `Accepted` are turned aside.
@@ -42,12 +42,12 @@ impl Verdict {
 }
 
 // The identifier is supported, the length allowed, the value right.
-fn checks_one_to_three(entry: Entry, contents: &[u8]) -> Verdict
+fn checks_one_to_three(entry: Option<Row>, contents: &[u8]) -> Verdict
     ensures answer { result ≡ verdicts.checked entry contents.now }
 {
     match entry {
-        Entry::Unsupported => Verdict::UnsupportedIdentifier,
-        Entry::Listed(row) => {
+        None => Verdict::UnsupportedIdentifier,
+        Some(row) => {
             if !is_allowed(row.rule, contents.len()) {
                 Verdict::WrongLength
             } else if !is_right(row.rule, contents) {
@@ -70,12 +70,12 @@ fn checks_four_and_five(companion: bool, full: bool) -> Verdict
     }
 }
 
-fn slot_of(entry: Entry) -> u8
+fn slot_of(entry: Option<Row>) -> u8
     ensures answer { result ≡ verdicts.slot_of entry }
 {
     match entry {
-        Entry::Unsupported => 0,
-        Entry::Listed(row) => row.slot,
+        None => 0,
+        Some(row) => row.slot,
     }
 }
 
@@ -126,7 +126,7 @@ fn has_companion<C: Catalogue>(
     requires whole { rooms.AllUnits (walk.cut_from (C.meaning catalogue.now) direction (walk.position first)) }
     ensures answer { result ≡ rooms.met_from (C.meaning catalogue.now) direction (walk.position first.entry) unit.entry.identifier }
 {
-    let Entry::Listed(row) = catalogue.answer(direction, unit.identifier).entry else {
+    let Some(row) = catalogue.answer(direction, unit.identifier).entry else {
         return true;
     };
     let companion = match row.companions {

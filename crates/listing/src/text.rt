@@ -10,7 +10,7 @@ ghost use Rattle.listing.specs.Lines as lines;
 ghost use Rattle.listing.specs.Listing as listing;
 
 use crate::lines::{count_line, fault_line, heading, unit_line};
-use catalogue::{Catalogue, Direction, LongEdition};
+use catalogue::{Catalogue, Direction, Edition};
 use element::{Cursor, ReaderFault, read};
 use std::alloc::{AllocError, Global};
 
@@ -18,7 +18,7 @@ use std::alloc::{AllocError, Global};
 pub fn list(heap: Global, element: &[u8]) -> Result<String, AllocError>
     ensures answer { IfOk result (λ s. string_bytes s ≡ listing.listing long ToModem element.now) }
 {
-    let whole = match read(&LongEdition, Direction::ToModem, element) {
+    let whole = match read(&Edition::Long, Direction::ToModem, element) {
         Ok(whole) => whole,
         Err(fault) => return list_fault(heap, fault),
     };
@@ -39,7 +39,7 @@ fn list_whole(
 {
     let mut text = String::new(heap);
     push_line(&mut text, heading())?;
-    push_units(&mut text, heap, &LongEdition, Direction::ToModem, cursor)?;
+    push_units(&mut text, heap, &Edition::Long, Direction::ToModem, cursor)?;
     let counts = count_line(heap, units, octets)?;
     push_line(&mut text, counts.as_str())?;
     Ok(text)
@@ -78,7 +78,7 @@ fn push_units<C: Catalogue>(
 fn list_fault(heap: Global, fault: ReaderFault) -> Result<String, AllocError>
     ensures answer { IfOk result (λ s. string_bytes s ≡ listing.ended (lines.fault_line (refusal_of fault))) }
 {
-    let mut text = fault_line(heap, fault.refusal())?;
+    let mut text = fault_line(heap, fault.into())?;
     text.push('\n')?;
     Ok(text)
 }
