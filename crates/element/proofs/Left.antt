@@ -11,7 +11,7 @@ use Rattle.element.specs.Walk.{Placed, Walk, seen, placed_unit, placed, placed_f
 use Rattle.element.specs.Left.{count_of, cut_units, units_left}
 use Rattle.element.proofs.Walk.{unit_of, turned_on}
 
-length-placed_from : (m : Meaning) (d : Direction) (p : ℕ) (us : List ElementUnit) → length (placed_from m d p us) ≡ length us
+pub length-placed_from : (m : Meaning) (d : Direction) (p : ℕ) (us : List ElementUnit) → length (placed_from m d p us) ≡ length us
 length-placed_from m d p [] = refl
 length-placed_from m d p (u ∷ us) = ap (λ (k : ℕ). suc k) (length-placed_from m d (p + size m d u) us)
 

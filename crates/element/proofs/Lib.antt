@@ -10,4 +10,5 @@ pub mod Alike
 pub mod Walk
 pub mod Counts
 pub mod Left
+pub mod Summaries
 pub mod Laws

@@ -15,8 +15,13 @@ pub record WholeWalk : Type 0 where
 abbrev pub whole_walk : {C : Type 0} (catalogue : Ghosts C) → Units C catalogue → WholeWalk
 whole_walk catalogue us = record { walk = walk_of catalogue.meaning us.cursor; count = us.left }
 
+-- the walk over units
+abbrev pub walk_of_units : {C : Type 0} (catalogue : Ghosts C) → Units C catalogue → Walk
+walk_of_units catalogue us = walk_of catalogue.meaning us.cursor
+
+-- the units that are left of them
 abbrev pub left_of : {C : Type 0} (catalogue : Ghosts C) → Units C catalogue → List Placed
-left_of catalogue us = units_left (walk_of catalogue.meaning us.cursor)
+left_of catalogue us = units_left (walk_of_units catalogue us)
 
 abbrev pub walks : {C : Type 0} (catalogue : Ghosts C) → Result (Units C catalogue) ReaderFault → Result WholeWalk ReaderFault
 walks catalogue (Ok us) = Ok (whole_walk catalogue us)

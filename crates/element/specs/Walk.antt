@@ -7,7 +7,7 @@ use Rattle.element.specs.declared.cursor.PlacedUnit.{PlacedUnit}
 use Rattle.element.specs.declared.reader.ReaderFault.{ReaderFault}
 use Rattle.element.specs.declared.reader.ReaderFault.TheVariants.{RunsPast}
 use Rattle.element.specs.Outer.{Outer, header}
-use Rattle.element.specs.Units.{ElementUnit, width, size}
+use Rattle.element.specs.Units.{ElementUnit, unit, width, size}
 use Rattle.element.specs.Reading.{Front, finished, stands, past, front, Cut, cutting, whole, declined, frame, reads}
 use Rattle.element.specs.Places.{place_after}
 
@@ -43,6 +43,10 @@ walk_of meaning c = record { meaning = meaning c.catalogue.now; direction = c.di
 
 abbrev pub placed_unit : PlacedUnit → Placed
 placed_unit u = record { place = u.place; identifier = u.identifier; start = u.start; contents = u.contents.now }
+
+-- a unit that was handed out, without its places
+abbrev pub unit_of : PlacedUnit → ElementUnit
+unit_of u = unit u.identifier u.contents.now
 
 -- what the answer of a cursor says, its contents as a list of octets
 abbrev pub seen : Result (Option PlacedUnit) ReaderFault → Found

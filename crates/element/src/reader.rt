@@ -1,6 +1,8 @@
 // The reader: an element's frame, and its units one after the other.
-ghost use Rattle.std.specs.Prelude.{◌≡◌};
+ghost use Rattle.std.specs.Prelude.{◌≡◌, IfOk};
+ghost use Rattle.element.specs.Handed.{walk_of_units};
 ghost use Rattle.element.specs.Laws as laws;
+ghost use Rattle.element.specs.Left.{HandsOut};
 ghost use Rattle.element.specs.Outer.{options};
 ghost use Rattle.element.specs.Reading as reading;
 ghost use Rattle.element.specs.Refusals as refusals;
@@ -60,6 +62,9 @@ pub fn read<'a, C: Catalogue>(
 ) -> Result<Whole<'a, C>, ReaderFault>
     ensures answer { laws.found C.Catalogue result
         ≡ laws.summary (C.meaning catalogue.now) direction options element.now (reading.reads (C.meaning catalogue.now) direction options element.now) }
+    ensures units {
+        IfOk result (λ w. HandsOut (C.meaning catalogue.now) direction options element.now w.configuration (walk_of_units C.Catalogue w.units))
+    }
     ensures law { laws.ReadingLaw (C.meaning catalogue.now) direction options element.now }
 {
     let configuration = frame(element)?;

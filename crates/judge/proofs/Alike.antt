@@ -8,7 +8,6 @@ use Rattle.catalogue.specs.Meaning.{Meaning}
 use Rattle.element.specs.Outer.{Outer, LawfulOuter, header}
 use Rattle.element.specs.Units.{Octets, ElementUnit, size}
 use Rattle.element.specs.Reading.{Reading, whole, declined, reads, units_of}
-use Rattle.element.specs.Laws.{summary}
 use Rattle.element.proofs.Cuts.{Small}
 use Rattle.element.proofs.RoundTrips.{reading_is}
 use Rattle.element.proofs.Alike.{reads_same}
@@ -64,7 +63,7 @@ module _ (m n : Meaning) (d : Direction) (alike : (i : ℕ) → i < 0x10000 → 
         ∙ ap (λ (r : Reading). rows_of n d outer (units_of r)) (reads_same m n d alike outer e octets)
 
     pub answer_same : (rows : List JudgedUnit) → answer m d outer e rows ≡ answer n d outer e rows
-    answer_same rows = ap (λ (r : Reading). answered (length rows) (summary r)) (reads_same m n d alike outer e octets)
+    answer_same rows = ap (λ (r : Reading). answered (length rows) r) (reads_same m n d alike outer e octets)
 
     pub rows_after_same : (rows : List JudgedUnit) → rows_after m d outer e rows ≡ rows_after n d outer e rows
     rows_after_same rows = ap₂ (λ a (new : List JudgedUnit). rows_by a new rows) (answer_same rows) rows_same

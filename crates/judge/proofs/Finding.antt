@@ -1,38 +1,22 @@
 -- The search for a companion, unit by unit.
-use Rattle.std.proofs.Common.{◌≡◌, ℕ, Bool, false, ◌||◌, List, ◌∷◌, sym, refl, ap, ◌∙◌, subst}
+use Rattle.std.proofs.Common.{◌≡◌, ℕ, ◌+◌, Bool, ◌||◌, List, [], ◌∷◌, refl, ap}
+use Rattle.std.specs.List.{list_any}
 use Rattle.catalogue.specs.declared.Direction.{Direction}
 use Rattle.catalogue.specs.Meaning.{Meaning}
-use Rattle.element.specs.Units.{ElementUnit}
-use Rattle.element.specs.Reading.{Cut, cut, stuck_at, onto}
-use Rattle.element.specs.Walk.{Placed, Position, cut_from}
-use Rattle.element.proofs.Walk.{OneMore, unit_of}
+use Rattle.element.specs.Units.{ElementUnit, unit, size}
+use Rattle.element.specs.Walk.{Placed, placed_from, Walk}
+use Rattle.element.specs.Left.{units_on, units_left}
 use Rattle.judge.specs.Verdicts.{passes_as, passes}
-use Rattle.judge.specs.Rooms.{cut_units, AllUnits}
+use Rattle.judge.specs.Rooms.{passes_as_on, passes_on}
 
--- the first of the units, and the rest
-pub units_onto : (u : ElementUnit) (c : Cut) → AllUnits (onto u c) → (cut_units (onto u c) ≡ u ∷ cut_units c) × AllUnits c
-units_onto u (cut us) h = (refl, tt)
-units_onto u (stuck_at p) h = absurd h
+-- a unit without its places
+abbrev pub bare : Placed → ElementUnit
+bare p = unit p.identifier p.contents
 
-module _ (m : Meaning) (d : Direction) (i : ℕ) (start : Position) where
-  -- nothing was found up to the position s
-  pub record Seeking (s : Position) : Type 0 where
-    pub same : passes m d (cut_units (cut_from m d start)) i ≡ passes m d (cut_units (cut_from m d s)) i
-    pub all : AllUnits (cut_from m d s)
+list_any-placed_from : (m : Meaning) (d : Direction) (i p : ℕ) (us : List ElementUnit) → list_any (λ (x : Placed). passes_as m d (bare x) i) (placed_from m d p us) ≡ passes m d us i
+list_any-placed_from m d i p [] = refl
+list_any-placed_from m d i p (u ∷ us) = ap (λ (b : Bool). passes_as m d u i || b) (list_any-placed_from m d i (p + size m d u) us)
 
-  pub seeking_none : AllUnits (cut_from m d start) → Seeking start
-  seeking_none h = record { same = refl; all = h }
-
-  module _ (s : Position) (so : Seeking s) where
-    -- the units at s, where u stands
-    at_unit : (u : Placed) (t : Position) → OneMore m d s u t → (cut_units (cut_from m d s) ≡ unit_of u ∷ cut_units (cut_from m d t)) × AllUnits (cut_from m d t)
-    at_unit u t one =
-        let h = units_onto (unit_of u) (cut_from m d t) (subst AllUnits one.cuts so.all) in
-        (ap cut_units one.cuts ∙ h.0, h.1)
-
-    pub seeking_more : (u : Placed) (t : Position) → OneMore m d s u t → false ≡ passes_as m d (unit_of u) i → Seeking t
-    seeking_more u t one q =
-        record {
-          same = so.same ∙ ap (λ (us : List ElementUnit). passes m d us i) (at_unit u t one).0 ∙ ap (λ (x : Bool). x || passes m d (cut_units (cut_from m d t)) i) (sym q);
-          all = (at_unit u t one).1;
-        }
+-- a unit that passes as i is among those that are handed out, if it is among the walk's
+pub list_any-placed : (w : Walk) (i : ℕ) → list_any (λ (x : Placed). passes_as_on w (bare x) i) (units_left w) ≡ passes_on w i
+list_any-placed w i = list_any-placed_from w.meaning w.direction i w.position.place (units_on w)

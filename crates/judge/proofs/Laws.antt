@@ -1,10 +1,12 @@
 -- The law of judging, of any lawful outer form.
-use Rattle.std.proofs.Common.{ℕ, List, sym}
+use Rattle.std.proofs.Common.{ℕ, List, get_or, w8, Fits, sym}
 use Rattle.catalogue.specs.declared.Direction.{Direction}
 use Rattle.catalogue.specs.Meaning.{Meaning}
 use Rattle.catalogue.specs.Laws.{Lawful}
-use Rattle.element.specs.Outer.{Outer, LawfulOuter}
+use Rattle.element.specs.Outer.{Outer, LawfulOuter, options}
 use Rattle.element.specs.Units.{Octets}
+use Rattle.element.proofs.Octets.{slice_octets}
+use Rattle.element.proofs.RoundTrips.{options_lawful}
 use Rattle.element.proofs.Laws.{reading_law}
 use Rattle.judge.specs.declared.judging.JudgedUnit.{JudgedUnit}
 use Rattle.judge.specs.Laws.{JudgingLaw}
@@ -27,3 +29,7 @@ judging_law outer lawful m law d e octets rows =
       refusals = refused_in_order m d outer e rows (reading_law outer lawful m law d e octets).refusals;
       alike = λ n same. (sym (answer_same m n d (same d) outer lawful e octets rows), sym (rows_after_same m n d (same d) outer lawful e octets rows));
     }
+
+-- the same of the protocol configuration options element, where a slice has octets
+pub options_law : (m : Meaning) → Lawful m → (d : Direction) (e : List ℕ) → ((i : ℕ) → Fits w8 (get_or e i 0)) → (rows : List JudgedUnit) → JudgingLaw m d options e rows
+options_law m law d e typed rows = judging_law options options_lawful m law d e (slice_octets e typed) rows

@@ -1,8 +1,8 @@
 mod Trailers
 pub mod Finding
+pub mod Steps
 pub mod Counting
 pub mod Writing
-pub mod Wholes
 pub mod Parts
 pub mod Changes
 pub mod Kin

@@ -8,7 +8,6 @@ use Rattle.element.specs.Outer.{Outer}
 use Rattle.element.specs.Units.{ElementUnit}
 use Rattle.element.specs.Reading.{Reading, whole, declined, reads, units_of}
 use Rattle.element.specs.Refusals as reader
-use Rattle.element.specs.Laws.{summary}
 use Rattle.judge.specs.declared.judging.JudgedUnit.{JudgedUnit}
 use Rattle.judge.specs.declared.judging.JudgeFault.{JudgeFault}
 use Rattle.judge.specs.declared.judging.JudgeFault.TheVariants.{Reader, TooFewRows}
@@ -92,14 +91,14 @@ module _ (m : Meaning) (d : Direction) (outer : Outer) (e : List ℕ) (rows : Li
         alone (Reader f) a = absurd (reading.accepts o us q f a.applies)
         alone (TooFewRows n) a = ap (λ (k : ℕ). refused (TooFewRows k)) (sym (a.applies.0 ∙ units))
 
-    ordered_whole : Ordered (answered (length rows) (summary (whole o us)))
+    ordered_whole : Ordered (answered (length rows) (whole o us))
     ordered_whole = go (leb (length us) (length rows)) refl
       where
         go : (b : Bool) → leb (length us) (length rows) ≡ b → Ordered (cond b (Ok (length us)) (Err (TooFewRows (length us))))
         go true t = ordered_fit (leb-true _ _ t)
         go false t = ordered_few (leb-false _ _ t)
 
-  ordered : (r : Reading) → reads m d outer e ≡ r → Ordered (answered (length rows) (summary r))
+  ordered : (r : Reading) → reads m d outer e ≡ r → Ordered (answered (length rows) r)
   ordered (declined f) q = ordered_declined f q
   ordered (whole o us) q = ordered_whole o us q
 

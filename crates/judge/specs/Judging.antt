@@ -4,13 +4,12 @@ use Rattle.catalogue.specs.declared.Direction.{Direction}
 use Rattle.catalogue.specs.declared.Layer.TheVariants as layer
 use Rattle.catalogue.specs.declared.Refusal.{Refusal}
 use Rattle.catalogue.specs.Meaning.{Meaning}
-use Rattle.element.specs.declared.reader.ReaderFault.{ReaderFault}
-use Rattle.element.specs.declared.reader.Whole.{Whole}
 use Rattle.element.specs.Outer.{Outer, header}
 use Rattle.element.specs.Units.{ElementUnit, width, size}
-use Rattle.element.specs.Reading.{reads, units_of}
+use Rattle.element.specs.Reading.{Reading, whole, declined, reads, units_of}
 use Rattle.element.specs.Refusals as reader
-use Rattle.element.specs.Laws.{summary}
+use Rattle.element.specs.Walk.{Walk}
+use Rattle.element.specs.Left.{units_on}
 use Rattle.judge.specs.declared.verdicts.Verdict.{Verdict}
 use Rattle.judge.specs.declared.verdicts.Verdict.TheVariants.{UnsupportedIdentifier}
 use Rattle.judge.specs.declared.judging.JudgedUnit.{JudgedUnit}
@@ -31,9 +30,9 @@ abbrev pub blank : JudgedUnit
 blank = judged_unit 0 0 0 0 UnsupportedIdentifier
 
 -- the number of units, if the element is whole and there are rows enough, n being lent
-abbrev pub answered : ℕ → Result Whole ReaderFault → Result ℕ JudgeFault
-answered n (Err f) = Err (Reader f)
-answered n (Ok w) = cond (nat_le w.units n) (Ok w.units) (Err (TooFewRows w.units))
+abbrev pub answered : ℕ → Reading → Result ℕ JudgeFault
+answered n (declined f) = Err (Reader f)
+answered n (whole o us) = cond (nat_le (length us) n) (Ok (length us)) (Err (TooFewRows (length us)))
 
 -- the new rows, and the later ones as they were; all as they were if judge is declined
 abbrev pub rows_by : Result ℕ JudgeFault → List JudgedUnit → List JudgedUnit → List JudgedUnit
@@ -56,7 +55,11 @@ module _ (m : Meaning) (d : Direction) where
   rows_of outer us = rows_from (header outer) (verdicts m d us) us
 
   abbrev pub answer : Outer → List ℕ → List JudgedUnit → Result ℕ JudgeFault
-  answer outer e rows = answered (length rows) (summary (reads m d outer e))
+  answer outer e rows = answered (length rows) (reads m d outer e)
 
   abbrev pub rows_after : Outer → List ℕ → List JudgedUnit → List JudgedUnit
   rows_after outer e rows = rows_by (answer outer e rows) (rows_of outer (units_of (reads m d outer e))) rows
+
+-- the rows of the units of a walk
+abbrev pub rows_on : Walk → List JudgedUnit
+rows_on w = let us = units_on w in rows_from w.meaning w.direction w.position.place (verdicts w.meaning w.direction us) us

@@ -2,6 +2,7 @@ pub mod Rules
 pub mod Verdicts
 pub mod Checks
 pub mod Rooms
+pub mod Steps
 pub mod Judging
 pub mod Refusals
 pub mod Changes

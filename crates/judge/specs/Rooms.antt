@@ -3,12 +3,11 @@ use Rattle.std.specs.Prelude.{ℕ, ◌-◌, Bool, true, false, cond, List, [], �
 use Rattle.catalogue.specs.declared.Direction.{Direction}
 use Rattle.catalogue.specs.Meaning.{Meaning}
 use Rattle.catalogue.specs.Slots.{holds}
-use Rattle.element.specs.declared.cursor.PlacedUnit.{PlacedUnit}
-use Rattle.element.specs.Units.{ElementUnit, unit}
-use Rattle.element.specs.Reading.{Cut, cut, stuck_at}
-use Rattle.element.specs.Walk.{Position, cut_from}
+use Rattle.element.specs.Units.{ElementUnit}
+use Rattle.element.specs.Walk.{Walk}
+use Rattle.element.specs.Left.{units_on}
 use Rattle.judge.specs.declared.verdicts.Verdict.{Verdict}
-use Rattle.judge.specs.Verdicts.{is_accepted, or_else, checked, last_two, slot_of, met}
+use Rattle.judge.specs.Verdicts.{is_accepted, or_else, checked, last_two, slot_of, passes_as, passes, met}
 
 -- nothing is filled: every slot takes as many values as it holds
 abbrev pub all_free : List ℕ
@@ -23,28 +22,7 @@ full_by left s = cond (s == 0) false (slice_index left s == 0)
 abbrev pub taken_from : List ℕ → ℕ → List ℕ
 taken_from left s = cond (slice_index left s == 0) left (slice_set left s (slice_index left s - 1))
 
--- a unit that the reader handed out, without its places
-abbrev pub unit_of : PlacedUnit → ElementUnit
-unit_of u = unit u.identifier u.contents.now
-
-abbrev pub cut_units : Cut → List ElementUnit
-cut_units (cut us) = us
-cut_units (stuck_at p) = []
-
-abbrev pub is_found : Option PlacedUnit → Bool
-is_found None = false
-is_found (Some u) = true
-
--- whole units stand from a position on to the end
-abbrev pub AllUnits : Cut → Type 0
-AllUnits (cut us) = Unit {0}
-AllUnits (stuck_at p) = ⊥
-
 module _ (m : Meaning) (d : Direction) where
-  -- check 4 among the units from a position on
-  abbrev pub met_from : Position → ℕ → Bool
-  met_from s j = met m d (cut_units (cut_from m d s)) j
-
   abbrev pub verdict_by : (ℕ → Bool) → List ℕ → ElementUnit → Verdict
   verdict_by meets left u =
       let e = (m d u.identifier).entry in
@@ -52,3 +30,21 @@ module _ (m : Meaning) (d : Direction) where
 
   abbrev pub left_after : (ℕ → Bool) → List ℕ → ElementUnit → List ℕ
   left_after meets left u = cond (is_accepted (verdict_by meets left u)) (taken_from left (slot_of (m d u.identifier).entry)) left
+
+-- a unit of a walk has the identifier i and passes checks 1 to 3
+abbrev pub passes_as_on : Walk → ElementUnit → ℕ → Bool
+passes_as_on w u i = passes_as w.meaning w.direction u i
+
+-- there is such a unit
+abbrev pub passes_on : Walk → ℕ → Bool
+passes_on w i = passes w.meaning w.direction (units_on w) i
+
+-- check 4 among the units of a walk
+abbrev pub met_on : Walk → ℕ → Bool
+met_on w j = met w.meaning w.direction (units_on w) j
+
+abbrev pub verdict_on : Walk → List ℕ → ElementUnit → Verdict
+verdict_on w left u = verdict_by w.meaning w.direction (met_on w) left u
+
+abbrev pub left_on : Walk → List ℕ → ElementUnit → List ℕ
+left_on w left u = left_after w.meaning w.direction (met_on w) left u

@@ -31,7 +31,7 @@ impl Room {
     {
         let left = self.left_in(slot);
         if left > 0 {
-            self.left[slot as usize] = left - 1;
+            self.left[usize::from(slot)] = left - 1;
         }
     }
 
@@ -39,10 +39,6 @@ impl Room {
         ensures answer { result ≡ slice_index self.now.left slot }
         ensures slot { 0 < result → slot < 10 }
     {
-        if (slot as usize) < self.left.len() {
-            self.left[slot as usize]
-        } else {
-            0
-        }
+        self.left.get(usize::from(slot)).copied().unwrap_or(0)
     }
 }

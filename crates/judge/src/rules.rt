@@ -31,9 +31,11 @@ pub(crate) fn is_right(rule: Rule, contents: &[u8]) -> bool
 {
     match rule {
         Rule::Prefix => contents[16] <= PREFIX_BITS,
-        Rule::Mode => contents[0] == 1 || contents[0] == 2,
+        Rule::Mode => matches!(contents[0], 1 | 2),
         Rule::Indicator => contents[0] <= 1,
-        Rule::PppPacket => 256 * contents[2] as usize + contents[3] as usize == contents.len(),
+        Rule::PppPacket => {
+            usize::from(u16::from_be_bytes([contents[2], contents[3]])) == contents.len()
+        },
         Rule::StrikeOrder(code) => is_strike_order(code, contents),
         _ => true,
     }
@@ -46,10 +48,12 @@ fn is_strike_order(code: OperatorCode, contents: &[u8]) -> bool
 {
     match contents {
         [first, second, third, rest @ ..] => {
-            *first == code.first
-                && *second == code.second
-                && *third == code.third
-                && points_to_trim(rest)
+            let opening = OperatorCode {
+                first: *first,
+                second: *second,
+                third: *third,
+            };
+            opening == code && points_to_trim(rest)
         }
         _ => false,
     }
@@ -61,6 +65,6 @@ fn points_to_trim(rest: &[u8]) -> bool
     requires some { 1 ≤ length rest.now }
     ensures answer { result ≡ rules.points_to_trim rest.now }
 {
-    let back = rest[rest.len() - 1] as usize;
+    let back = usize::from(rest[rest.len() - 1]);
     back >= 2 && back < rest.len()
 }

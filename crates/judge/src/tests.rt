@@ -28,10 +28,8 @@ fn verdicts<C: Catalogue>(
     let mut rows = [BLANK; 5];
     let units = judge(catalogue, direction, element, &mut rows)?;
     let mut numbers = [9; 5];
-    for i in 0..5 {
-        if i < units {
-            numbers[i] = rows[i].verdict.number();
-        }
+    for (number, row) in numbers.iter_mut().zip(&rows[..units]) {
+        *number = u8::from(row.verdict);
     }
     Ok(numbers)
 }

@@ -1,168 +1,132 @@
 // The verdicts, and the checks that give them.
 ghost use Rattle.std.specs.Prelude.{◌≡◌};
-ghost use Rattle.element.specs.Walk as walk;
+ghost use Rattle.element.specs.Handed.{walk_of_units};
+ghost use Rattle.element.specs.Walk.{unit_of};
 ghost use Rattle.judge.specs.Rooms as rooms;
+ghost use Rattle.judge.specs.Steps as steps;
 ghost use Rattle.judge.specs.Verdicts as verdicts;
 
 use crate::rooms::Room;
 use crate::rules::{is_allowed, is_right};
-use catalogue::{Catalogue, Companions, Direction, Row};
-use element::{Cursor, PlacedUnit};
+use catalogue::{Catalogue, Companions, Row};
+use element::{PlacedUnit, Units};
 
-/// What became of a unit. All but `Accepted` are turned aside.
+/// What became of a unit, by the number of the check that failed. All but `Accepted` are turned aside.
 #[derive(Clone, Copy, PartialEq, Debug)]
 pub enum Verdict {
-    Accepted,
+    Accepted = 0,
     /// The catalogue has no row for the identifier.
-    UnsupportedIdentifier,
+    UnsupportedIdentifier = 1,
     /// The rule does not allow so many octets.
-    WrongLength,
+    WrongLength = 2,
     /// The rule does not take the value.
-    WrongValue,
+    WrongValue = 3,
     /// The row has companions, and none of them stands in the element with right contents.
-    CompanionMissing,
+    CompanionMissing = 4,
     /// Earlier accepted units fill the slot.
-    Surplus,
+    Surplus = 5,
 }
 
-impl Verdict {
-    /// The number of the check that failed; 0 if none did.
-    pub fn number(self) -> u8
-        ensures answer { result ≡ verdicts.number_of self }
-    {
-        match self {
-            Verdict::Accepted => 0,
-            Verdict::UnsupportedIdentifier => 1,
-            Verdict::WrongLength => 2,
-            Verdict::WrongValue => 3,
-            Verdict::CompanionMissing => 4,
-            Verdict::Surplus => 5,
-        }
+impl From<Verdict> for u8 {
+    ghost from_gives = { λ v n. n ≡ verdicts.number_of v };
+
+    fn from(verdict: Verdict) -> u8 {
+        verdict as u8
     }
 }
 
-// The identifier is supported, the length allowed, the value right.
-fn checks_one_to_three(entry: Option<Row>, contents: &[u8]) -> Verdict
-    ensures answer { result ≡ verdicts.checked entry contents.now }
+// Checks 1 to 3: the row of an identifier that is supported, if its rule allows the length and takes the value.
+fn passing_row(entry: Option<Row>, contents: &[u8]) -> Result<Row, Verdict>
+    ensures answer { result ≡ steps.passing_row entry contents.now }
 {
-    match entry {
-        None => Verdict::UnsupportedIdentifier,
-        Some(row) => {
-            if !is_allowed(row.rule, contents.len()) {
-                Verdict::WrongLength
-            } else if !is_right(row.rule, contents) {
-                Verdict::WrongValue
-            } else {
+    let row = entry.ok_or(Verdict::UnsupportedIdentifier)?;
+    if !is_allowed(row.rule, contents.len()) {
+        return Err(Verdict::WrongLength);
+    }
+    if !is_right(row.rule, contents) {
+        return Err(Verdict::WrongValue);
+    }
+    Ok(row)
+}
+
+// The units of an element, judged one after the other: all of them for check 4, and for check 5 the room left in the slots.
+#[derive(Drop)]
+pub(crate) struct Judge<'a, C: Catalogue> {
+    units: Units<'a, C>,
+    room: Room,
+}
+
+impl<'a, C: Catalogue> Judge<'a, C> {
+    // Nothing is judged yet, so every slot takes as many values as it holds.
+    pub(crate) fn new(units: Units<'a, C>) -> Judge<'a, C>
+        ensures units { walk_of_units C.Catalogue result.units ≡ walk_of_units C.Catalogue units.entry }
+        ensures room { result.room.left ≡ rooms.all_free }
+    {
+        Judge {
+            units,
+            room: Room::new(),
+        }
+    }
+
+    // The verdict of a unit; if it is accepted, its slot has room for one less.
+    pub(crate) fn verdict(&mut self, unit: PlacedUnit<'_>) -> Verdict
+        ensures answer { result ≡ rooms.verdict_on (walk_of_units C.Catalogue self.old.units) self.old.room.left (unit_of unit.entry) }
+        ensures room { self.new.room.left ≡ rooms.left_on (walk_of_units C.Catalogue self.old.units) self.old.room.left (unit_of unit.entry) }
+        ensures units { walk_of_units C.Catalogue self.new.units ≡ walk_of_units C.Catalogue self.old.units }
+    {
+        match self.check(unit) {
+            Ok(slot) => {
+                self.room.take(slot);
                 Verdict::Accepted
             }
+            Err(verdict) => verdict,
         }
     }
-}
 
-// A companion stands in the element if one must, and the slot is not full.
-fn checks_four_and_five(companion: bool, full: bool) -> Verdict
-    ensures answer { result ≡ verdicts.last_two companion full }
-{
-    match (companion, full) {
-        (false, _) => Verdict::CompanionMissing,
-        (_, true) => Verdict::Surplus,
-        _ => Verdict::Accepted,
+    // All checks, in their order: the slot of a unit that passes, or the verdict that the first to fail gives.
+    fn check(&self, unit: PlacedUnit<'_>) -> Result<u8, Verdict>
+        ensures answer { result ≡ steps.slot_or_verdict (walk_of_units C.Catalogue self.now.units) self.now.room.left (unit_of unit.entry) }
+    {
+        let row = self.row(unit)?;
+        if !self.has_companion(row.companions) {
+            return Err(Verdict::CompanionMissing);
+        }
+        if self.room.is_full(row.slot) {
+            return Err(Verdict::Surplus);
+        }
+        Ok(row.slot)
     }
-}
 
-fn slot_of(entry: Option<Row>) -> u8
-    ensures answer { result ≡ verdicts.slot_of entry }
-{
-    match entry {
-        None => 0,
-        Some(row) => row.slot,
+    // Checks 1 to 3 on a unit.
+    fn row(&self, unit: PlacedUnit<'_>) -> Result<Row, Verdict>
+        ensures answer { result ≡ steps.row_on (walk_of_units C.Catalogue self.now.units) (unit_of unit.entry) }
+    {
+        passing_row(self.units.answer(unit.identifier).entry, unit.contents)
     }
-}
 
-// Whether a unit has the identifier and passes checks 1 to 3.
-fn passes_as<C: Catalogue>(
-    catalogue: &C,
-    direction: Direction,
-    unit: PlacedUnit<'_>,
-    identifier: u16,
-) -> bool
-    ensures answer { result ≡ verdicts.passes_as (C.meaning catalogue.now) direction (rooms.unit_of unit.entry) identifier }
-{
-    unit.identifier == identifier
-        && checks_one_to_three(catalogue.answer(direction, identifier).entry, unit.contents)
-            == Verdict::Accepted
-}
-
-// A unit from the cursor on that has the identifier and passes checks 1 to 3, if there is one.
-fn find<'a, C: Catalogue>(
-    catalogue: &C,
-    direction: Direction,
-    first: Cursor<'a>,
-    identifier: u16,
-) -> Option<PlacedUnit<'a>>
-    requires whole { rooms.AllUnits (walk.cut_from (C.meaning catalogue.now) direction (walk.position first)) }
-    ensures answer { rooms.is_found result ≡ verdicts.passes (C.meaning catalogue.now) direction (rooms.cut_units (walk.cut_from (C.meaning catalogue.now) direction (walk.position first.entry))) identifier }
-{
-    let mut cursor = first;
-    while let Ok(next) = cursor.next_unit(catalogue, direction) {
-        let Some(unit) = next else {
-            break;
-        };
-        if passes_as(catalogue, direction, unit, identifier) {
-            return Some(unit);
+    // Check 4: one of the companions, if there are any, stands in the element and passes checks 1 to 3.
+    fn has_companion(&self, companions: Companions) -> bool
+        ensures answer { result ≡ verdicts.companion_stands (rooms.passes_on (walk_of_units C.Catalogue self.now.units)) companions }
+    {
+        match companions {
+            Companions::None => true,
+            Companions::One(one) => self.has(one),
+            Companions::Two(one, other) => self.has(one) || self.has(other),
         }
     }
-    None
-}
 
-// Check 4: whether one of the unit's companions, if its row has any, stands in the element and passes checks 1 to 3. The
-// element's units are those from `first` on.
-fn has_companion<C: Catalogue>(
-    catalogue: &C,
-    direction: Direction,
-    first: Cursor<'_>,
-    unit: PlacedUnit<'_>,
-) -> bool
-    requires whole { rooms.AllUnits (walk.cut_from (C.meaning catalogue.now) direction (walk.position first)) }
-    ensures answer { result ≡ rooms.met_from (C.meaning catalogue.now) direction (walk.position first.entry) unit.entry.identifier }
-{
-    let Some(row) = catalogue.answer(direction, unit.identifier).entry else {
-        return true;
-    };
-    let companion = match row.companions {
-        Companions::None => return true,
-        Companions::One(one) => find(catalogue, direction, first, one),
-        Companions::Two(one, other) => match find(catalogue, direction, first, one) {
-            Some(found) => Some(found),
-            None => find(catalogue, direction, first, other),
-        },
-    };
-    companion.is_some()
-}
-
-// The verdict of a unit; if it is accepted, its slot has room for one less.
-pub(crate) fn judge_unit<C: Catalogue>(
-    catalogue: &C,
-    direction: Direction,
-    first: Cursor<'_>,
-    unit: PlacedUnit<'_>,
-    room: &mut Room,
-) -> Verdict
-    requires whole { rooms.AllUnits (walk.cut_from (C.meaning catalogue.now) direction (walk.position first)) }
-    ensures answer { result ≡ rooms.verdict_by (C.meaning catalogue.now) direction (rooms.met_from (C.meaning catalogue.now) direction (walk.position first.entry)) room.old.left (rooms.unit_of unit.entry) }
-    ensures room { room.new.left ≡ rooms.left_after (C.meaning catalogue.now) direction (rooms.met_from (C.meaning catalogue.now) direction (walk.position first.entry)) room.old.left (rooms.unit_of unit.entry) }
-{
-    let entry = catalogue.answer(direction, unit.identifier).entry;
-    let slot = slot_of(entry);
-    let verdict = match checks_one_to_three(entry, unit.contents) {
-        Verdict::Accepted => checks_four_and_five(
-            has_companion(catalogue, direction, first, unit),
-            room.is_full(slot),
-        ),
-        early => early,
-    };
-    if verdict == Verdict::Accepted {
-        room.take(slot);
+    // Whether a unit has the identifier and passes checks 1 to 3.
+    fn passes_as(&self, unit: PlacedUnit<'_>, identifier: u16) -> bool
+        ensures answer { result ≡ rooms.passes_as_on (walk_of_units C.Catalogue self.now.units) (unit_of unit.entry) identifier }
+    {
+        unit.identifier == identifier && self.row(unit).is_ok()
     }
-    verdict
+
+    // Whether there is such a unit in the element.
+    fn has(&self, identifier: u16) -> bool
+        ensures answer { result ≡ rooms.passes_on (walk_of_units C.Catalogue self.now.units) identifier }
+    {
+        let mut units = self.units;
+        units.any(|unit| self.passes_as(unit, identifier))
+    }
 }

@@ -1,77 +1,39 @@
-use Rattle.std.proofs.Common.{ℕ, ◌<◌, ◌≤◌, List, ◌++◌, length, drop, Some, None, Ok, sym, ap, ◌∙◌, ap₂, arith, rules}
-use Rattle.catalogue.specs.Meaning.{Meaning}
-use Rattle.element.specs.Outer.{options}
-use Rattle.element.specs.Walk.{position, placed_unit}
-use Rattle.element.proofs.Walk.{OneMore, turned}
-use Rattle.judge.specs.declared.judging.JudgedUnit.{JudgedUnit}
-use Rattle.judge.proofs.Wholes.{whole_from}
-use Rattle.judge.proofs.Writing.{all_units, written_none, written_more, written_all, as_long, one_left}
-use Rattle.judge.proofs.judging.write_rows.Given as given
+use Rattle.std.proofs.Common.{◌≡◌, ℕ, ◌+◌, ◌≤◌, List, length, set, sym, ap, ◌∙◌, subst, rules, arith}
+use Rattle.element.specs.Handed.{left_of, walk_of_units}
+use Rattle.element.specs.Walk.{Walk, placed_unit, unit_of}
+use Rattle.element.specs.Left.{units_left}
+use Rattle.judge.specs.Rooms.{verdict_on, left_on}
+use Rattle.judge.proofs.Writing.{Written, row_at, written_none, written_more}
 use Rattle.judge.proofs.judging.write_rows.Goals as goal
 
-pub loop-next-init : goal.loop-next-init
-loop-next-init g c =
-    let m : Meaning = g.C.Catalogue.meaning c.args.catalogue.now in
-    let d = c.args.direction in
-    let from = whole_from m d options c.args.element.now c.args.whole c.requires.read (position c.in-Ok.first) c.in-Ok.ensures.answer in
-    written_none m d (position c.in-Ok.first) c.args.rows.now from.all c.new-room.result.left c.new-room.ensures.answer
-
--- what a turn of the loop finds
-in_turn : (g : given.Over) (c : goal.After-row_of g) → OneMore (g.C.Catalogue.meaning c.args.catalogue.now) c.args.direction (position c.loop-next.cursor) (placed_unit c.in-Some.unit) (position c.next_unit.new.self)
-in_turn g c =
-    turned (g.C.Catalogue.meaning c.args.catalogue.now) c.args.direction (position c.loop-next.cursor) (g.met.C.Catalogue.lawful c.args.catalogue.now) _ (Ok (Some c.in-Some.unit)) _ c.next_unit.ensures.answer c.next_unit.ensures.state
-    (c.in-Ok-next_unit.is ∙ ap (λ o. Ok o) c.in-Some.is)
-
--- the rows that were lent are enough
-enough : (g : given.Over) (c : goal.After-row_of g) → length (all_units (g.C.Catalogue.meaning c.args.catalogue.now) c.args.direction (position c.in-Ok.first) c.args.rows.now) ≤ length c.args.rows.now
-enough g c =
-    let m : Meaning = g.C.Catalogue.meaning c.args.catalogue.now in
-    let from = whole_from m c.args.direction options c.args.element.now c.args.whole c.requires.read (position c.in-Ok.first) c.in-Ok.ensures.answer in
-    omega (arith, from.so_many, c.requires.room)
-
-within : (g : given.Over) (c : goal.After-row_of g) → c.loop-next.written < length c.loop-next.rows
-within g c =
-    let m : Meaning = g.C.Catalogue.meaning c.args.catalogue.now in
-    let d = c.args.direction in
-    let first = position c.in-Ok.first in
-    let old = c.args.rows.now in
-    let s = position c.loop-next.cursor in
-    let left = c.loop-next.room.left in
-    let n = c.loop-next.written in
-    let now = c.loop-next.rows in
-    let w = c.loop-next.invariant in
-    omega (arith, enough g c, as_long m d first old s left n now w (enough g c), one_left m d first old s left n now w (placed_unit c.in-Some.unit) (position c.next_unit.new.self) (in_turn g c))
-
-pub bounds-rows-written : goal.bounds-rows-written
-bounds-rows-written g c = within g c
-
-pub offset_bounds-rows-written : goal.offset_bounds-rows-written
-offset_bounds-rows-written g c = let inside = within g c in search rules
-
-pub overflow_add-written : goal.overflow_add-written
-overflow_add-written g c = let inside = within g c in search rules
-
-pub loop-next-smaller : goal.loop-next-smaller
-loop-next-smaller g c = (in_turn g c).less
-
-pub loop-next-preserved : goal.loop-next-preserved
-loop-next-preserved g c =
-    let m : Meaning = g.C.Catalogue.meaning c.args.catalogue.now in
-    written_more m c.args.direction (position c.in-Ok.first) c.args.rows.now (position c.loop-next.cursor) c.loop-next.room.left c.loop-next.written c.loop-next.rows c.loop-next.invariant
-    (placed_unit c.in-Some.unit) (position c.next_unit.new.self) (in_turn g c) (enough g c) c.row_of.result c.row_of.ensures.answer c.row_of.new.room.left c.row_of.ensures.room
-
-pub returns-in_default-next : goal.returns-in_default-next
-returns-in_default-next g c =
-    let m : Meaning = g.C.Catalogue.meaning c.args.catalogue.now in
-    let d = c.args.direction in
-    let first = position c.in-Ok.first in
-    let old = c.args.rows.now in
-    let s = position c.loop-next.cursor in
-    let from = whole_from m d options c.args.element.now c.args.whole c.requires.read first c.in-Ok.ensures.answer in
-    let end =
-    turned m d s (g.met.C.Catalogue.lawful c.args.catalogue.now) _ (Ok None) _ c.next_unit.ensures.answer c.next_unit.ensures.state (c.in-Ok-next_unit.is ∙ ap (λ o. Ok o) c.in_default-next.is) in
+pub loop-n-init : goal.loop-n-init
+loop-n-init g c =
+    let w = walk_of_units g.C.Catalogue c.args.units in
+    let all : left_of g.C.Catalogue c.into_iter-n-iterator.result.iter ≡ units_left w = cc in
+    let zero : c.into_iter-n-iterator.result.count ≡ 0 = cc in
     record {
-      rows =
-          written_all m d first old s c.loop-next.room.left c.loop-next.written c.loop-next.rows c.loop-next.invariant end
-          ∙ ap₂ (λ (l : List JudgedUnit) (k : ℕ). l ++ drop k old) from.rows (sym from.so_many);
+      written = written_none w c.args.rows.now _ c.new-judge.result.room.left _ all c.new-judge.ensures.room zero;
+      units = c.new-judge.ensures.units;
+    }
+
+pub loop-n-preserved : goal.loop-n-preserved
+loop-n-preserved g c =
+    let w = walk_of_units g.C.Catalogue c.args.units in
+    let now = c.loop-n.judge.room.left in
+    let n = c.loop-n.n-iterator.count in
+    let old = c.args.rows.now in
+    let unit = c.in-Some.unit in
+    let u = placed_unit unit in
+    let steps = c.in-Some.ensures.steps in
+    let same = c.loop-n.invariant.units in
+    let row : c.judged.result ≡ row_at u (verdict_on w now (unit_of unit)) =
+    c.judged.ensures.answer ∙ ap (row_at u) (c.verdict.ensures.answer ∙ ap (λ (x : Walk). verdict_on x now (unit_of unit)) same) in
+    let room = c.verdict.ensures.room ∙ ap (λ (x : Walk). left_on x now (unit_of unit)) same in
+    let more =
+    written_more w old _ now n c.loop-n.rows c.loop-n.invariant.written u (left_of g.C.Catalogue c.next.new.self.iter) steps.0 c.requires.room c.judged.result row c.verdict.new.self.room.left room in
+    record {
+      written =
+          subst (λ (k : ℕ). Written w old (left_of g.C.Catalogue c.next.new.self.iter) c.verdict.new.self.room.left k (set c.loop-n.rows c.in-Some.n c.judged.result)) (sym steps.2)
+          (subst (λ (k : ℕ). Written w old (left_of g.C.Catalogue c.next.new.self.iter) c.verdict.new.self.room.left (n + 1) (set c.loop-n.rows k c.judged.result)) (sym steps.1) more);
+      units = c.verdict.ensures.units ∙ same;
     }

@@ -1,11 +1,10 @@
-use Rattle.std.proofs.Common.{length, drop}
-use Rattle.element.specs.Walk.{position}
+use Rattle.std.proofs.Common.{◌≡◌}
+use Rattle.element.specs.Handed.{left_of, walk_of_units}
 use Rattle.judge.proofs.Writing.{Written}
 use Rattle.judge.proofs.judging.write_rows.Given as goal
 
-abbrev pub invariant-loop-next : goal.invariant-loop-next
-invariant-loop-next g l =
-    Written (g.C.Catalogue.meaning l.catalogue) l.direction (position l.first) l.initial.rows (position l.cursor) l.room.left l.written l.rows
-
-abbrev pub decreases-loop-next : goal.decreases-loop-next
-decreases-loop-next g l = length (drop l.cursor.place l.cursor.octets.now)
+abbrev pub invariant-loop-n : goal.invariant-loop-n
+invariant-loop-n g l = record {
+  written : Written (walk_of_units g.C.Catalogue l.fn.units) l.fn.rows (left_of g.C.Catalogue l.n-iterator.iter) l.judge.room.left l.n-iterator.count l.rows;
+  units : walk_of_units g.C.Catalogue l.judge.units ≡ walk_of_units g.C.Catalogue l.fn.units;
+}

@@ -1,0 +1,10 @@
+use Rattle.std.proofs.Common.{sym, ◌∙◌}
+use Rattle.element.specs.Handed.{walk_of_units}
+use Rattle.element.specs.Walk.{unit_of}
+use Rattle.judge.proofs.Steps.{left_kept}
+use Rattle.judge.proofs.verdicts.Judge.verdict.Goals as goal
+
+pub returns-in-Err-clause-room : goal.returns-in-Err-clause-room
+returns-in-Err-clause-room g c =
+    let judge = c.args.self.now in
+    sym (left_kept (walk_of_units g.C.Catalogue judge.units) judge.room.left (unit_of c.args.unit) c.in-Err.verdict (sym c.check.ensures.answer ∙ c.in-Err.is))
