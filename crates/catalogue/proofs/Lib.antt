@@ -1,2 +1,3 @@
 pub mod Tables
+mod Identifiers
 mod Codes

@@ -1,10 +1,11 @@
 // The operator layer and the narrowing layer. Each stands over any catalogue and is one.
-ghost use Rattle.std.specs.Prelude.{◌≡◌, ◌^◌, ◌<◌, ◌≤◌, ◌⊎◌, length};
+ghost use Rattle.std.specs.Prelude.{◌≡◌, ◌^◌, ◌<◌, ◌≤◌, ◌⊎◌, length, slice_get};
 ghost use Rattle.catalogue.specs.Layers as layers;
 ghost use Rattle.catalogue.specs.Operators as operators;
 ghost use Rattle.catalogue.specs.OverAny.{operator_lawful, narrowing_lawful};
 
 use crate::{Answer, Catalogue, Companions, Direction, Layer, OperatorCode, Refusal, Row, Rule};
+use std::array;
 
 /// The most identifiers of a narrowing list.
 pub const MOST_IDENTIFIERS: usize = 16;
@@ -107,8 +108,7 @@ fn octets_of(mcc: u16, mnc: u16, digits: u8) -> OperatorCode
 /// The identifiers that a narrowing layer lets through.
 #[derive(Clone, Copy)]
 pub struct IdentifierList {
-    identifiers: [u16; MOST_IDENTIFIERS],
-    count: usize,
+    identifiers: [Option<u16>; MOST_IDENTIFIERS],
 }
 
 impl IdentifierList {
@@ -122,6 +122,15 @@ impl IdentifierList {
         }
         Ok(copied(identifiers))
     }
+
+    fn contains(&self, identifier: u16) -> bool
+        ensures answer { result ≡ layers.among (layers.identifiers_of self.now) identifier }
+    {
+        self.identifiers
+            .iter()
+            .filter_map(|held| *held)
+            .any(|held| held == identifier)
+    }
 }
 
 // The list of identifiers that are few enough.
@@ -129,12 +138,12 @@ fn copied(identifiers: &[u16]) -> IdentifierList
     requires few { length identifiers.now ≤ 16 }
     ensures answer { layers.identifiers_of result ≡ identifiers.now }
 {
-    let count = identifiers.len();
-    let mut held = [0; MOST_IDENTIFIERS];
-    held[0..count].copy_from_slice(identifiers);
     IdentifierList {
-        identifiers: held,
-        count,
+        identifiers: array::from_fn(
+            |place|
+                ensures { result ≡ slice_get identifiers.entry.now place }
+            { identifiers.get(place).copied() },
+        ),
     }
 }
 
@@ -174,7 +183,7 @@ impl<C: Catalogue> Catalogue for NarrowingLayer<C> {
     // The width is that of the catalogue below, also where the identifier is not listed: units are cut alike.
     fn answer(&self, direction: Direction, identifier: u16) -> Answer {
         let below = self.below.answer(direction, identifier);
-        if listed(&self.list).contains(&identifier) {
+        if self.list.contains(identifier) {
             below
         } else {
             Answer {
@@ -183,17 +192,6 @@ impl<C: Catalogue> Catalogue for NarrowingLayer<C> {
             }
         }
     }
-}
-
-// The identifiers of a list.
-fn listed(list: &IdentifierList) -> &[u16]
-    ensures answer { result.now ≡ layers.identifiers_of list.now }
-{
-    let count = list.count;
-    if count < MOST_IDENTIFIERS {
-        return &list.identifiers[0..count];
-    }
-    &list.identifiers
 }
 
 // What an operator layer answers for the identifier of its strike orders.
