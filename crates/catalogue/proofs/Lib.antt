@@ -1,3 +1,3 @@
 pub mod Tables
 mod Identifiers
-mod Codes
+pub mod Codes

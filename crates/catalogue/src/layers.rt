@@ -47,11 +47,11 @@ impl From<CatalogueFault> for Refusal {
 
 impl OperatorCode {
     /// The octets of an operator: of its mobile country code, its mobile network code, and how many digits the latter has.
+    #[tactic(auto, using(crate::proofs::Codes::operator_law))]
     pub fn new(mcc: u16, mnc: u16, digits: u8) -> Result<OperatorCode, CatalogueFault>
         ensures answer { result ≡ layers.operator_code mcc mnc digits }
         ensures law { operators.OperatorLaw mcc mnc digits }
     {
-        operator_law(mcc, mnc, digits);
         let limit = match digits {
             2 => 100,
             _ => 1000,
@@ -67,11 +67,6 @@ impl OperatorCode {
         }
     }
 }
-
-// The law of an operator's octets, which `OperatorCode::new` passes on.
-fn operator_law(mcc: u16, mnc: u16, digits: u8)
-    ensures law { operators.OperatorLaw mcc mnc digits }
-{}
 
 // Two digits in an octet, the high half first.
 fn halves(high: u16, low: u16) -> u8
