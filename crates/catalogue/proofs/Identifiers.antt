@@ -1,9 +1,9 @@
 -- A narrowing list: each identifier in a place of its own, the other places empty.
 use denote.Param.Members.{Mut, Called}
 use Rattle.std.specs.Array.{IsFromFnResult, IsFromFnResultFrom}
-use Rattle.std.specs.List.{filter_map, cons_option}
+use Rattle.std.specs.List.{filter_map}
 use Rattle.std.proofs.lemmas.Bool.{cases_lt}
-use Rattle.std.proofs.Common.{◌≡◌, ℕ, zero, suc, ◌+◌, ◌<◌, ◌≤◌, List, [], ◌∷◌, length, get_or, slice_get, None, Option, refl, ap, ◌∙◌, subst, ⊎_elim, arith}
+use Rattle.std.proofs.Common.{◌≡◌, ℕ, zero, suc, ◌+◌, ◌<◌, ◌≤◌, List, [], ◌∷◌, length, get_or, slice_get, None, Option, refl, subst, arith}
 
 -- the identifiers that the places hold, in order
 abbrev held : List (Option ℕ) → List ℕ
@@ -15,11 +15,13 @@ placed : (xs : List ℕ) (ps : List (Option ℕ)) → length xs ≤ length ps
 placed [] [] le at = refl
 placed (x ∷ xs) [] le at = absurd (omega arith)
 placed [] (p ∷ ps) le at =
-    ap (λ (o : Option ℕ). cons_option o (held ps)) (at 0 (omega arith))
-    ∙ placed [] ps (omega arith) (λ k lt. at (suc k) (omega arith))
+    let first = at 0 (omega arith) in
+    let rest = placed [] ps (omega arith) (λ k lt. at (suc k) (omega arith)) in
+    grind (arith, first, rest)
 placed (x ∷ xs) (p ∷ ps) le at =
-    ap (λ (o : Option ℕ). cons_option o (held ps)) (at 0 (omega arith))
-    ∙ ap (λ (l : List ℕ). x ∷ l) (placed xs ps (omega arith) (λ k lt. at (suc k) (omega arith)))
+    let first = at 0 (omega arith) in
+    let rest = placed xs ps (omega arith) (λ k lt. at (suc k) (omega arith)) in
+    grind (arith, first, rest)
 
 -- places filled by calls that read the identifiers one after the other
 module _ {F : Type 0} (g : Mut F (ℕ × Unit {0}) (Option ℕ)) (f : F) (xs : List ℕ) (ps : List (Option ℕ)) where
@@ -33,8 +35,9 @@ module _ {F : Type 0} (g : Mut F (ℕ × Unit {0}) (Option ℕ)) (f : F) (xs : L
   each reads (suc n) i calls j le lt =
       let read = reads i calls.1 calls.0 calls.3 in
       let onward : IsFromFnResultFrom g f ps (i + 1) n = subst (λ (e : F). IsFromFnResultFrom g e ps (i + 1) n) read.0 calls.4 in
-      ⊎_elim (λ (h : j < i + 1). let same : i ≡ j = omega arith in subst (λ (k : ℕ). get_or ps k None ≡ slice_get xs k) same (calls.2.1 None ∙ read.1))
-      (λ (h : i + 1 ≤ j). each reads n (i + 1) onward j h (omega arith)) (cases_lt j (i + 1))
+      let more : i + 1 ≤ j → get_or ps j None ≡ slice_get xs j = λ h. each reads n (i + 1) onward j h (omega arith) in
+      let here = calls.2.1 None in
+      grind (arith, cases_lt j (i + 1))
 
   pub placed_by_calls : (n : ℕ) → IsFromFnResult g f ps n → length xs ≤ n → Reads → held ps ≡ xs
   placed_by_calls n made few reads =

@@ -118,6 +118,7 @@ impl IdentifierList {
         Ok(copied(identifiers))
     }
 
+    // Whether an identifier is listed.
     fn contains(&self, identifier: u16) -> bool
         ensures answer { result ≡ layers.among (layers.identifiers_of self.now) identifier }
     {
@@ -173,7 +174,8 @@ impl<C: Catalogue> Catalogue for OperatorLayer<C> {
 impl<C: Catalogue> Catalogue for NarrowingLayer<C> {
     ghost meaning = { λ s. layers.narrowed_to (layers.identifiers_of s.list) (C.Catalogue.meaning s.below) };
 
-    ghost lawful = { λ c. narrowing_lawful (layers.identifiers_of c.list) (C.Catalogue.meaning c.below) (C.Catalogue.lawful c.below) };
+    ghost lawful = { λ c. narrowing_lawful (layers.identifiers_of c.list) (C.Catalogue.meaning c.below)
+        (C.Catalogue.lawful c.below) };
 
     // The width is that of the catalogue below, also where the identifier is not listed: units are cut alike.
     fn answer(&self, direction: Direction, identifier: u16) -> Answer {

@@ -4,4 +4,4 @@ use Rattle.catalogue.proofs.layers.copied.Goals as goal
 
 pub returns : goal.returns
 returns c =
-    record { answer = placed_by_calls _ _ c.args.identifiers.now c.from_fn.result 16 c.from_fn.ensures.items c.requires.few (λ i o q called. (search rules, search rules)) }
+    record { answer = placed_by_calls _ _ c.args.identifiers.now c.from_fn.result 16 c.from_fn.ensures.items c.requires.few (λ i o q called. search rules) }
