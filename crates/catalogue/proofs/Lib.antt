@@ -1,2 +1,3 @@
 pub mod Tables
-mod Codes
+mod Identifiers
+pub mod Codes

@@ -137,6 +137,7 @@ added = edition added_to_network added_to_modem
 abbrev pub long : Meaning
 long = edition long_to_network long_to_modem
 
+-- what each edition answers
 abbrev pub meaning_of : Edition → Meaning
 meaning_of Short = short
 meaning_of Long = long

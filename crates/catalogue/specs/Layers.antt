@@ -1,6 +1,6 @@
 -- The operator layer and the narrowing layer, over any catalogue, and when the part that each is made from is declined.
-use Rattle.std.specs.Prelude.{ℕ, ◌+◌, ◌-◌, ◌*◌, ◌/◌, ◌%◌, ◌^◌, Bool, cond, ◌||◌, List, length, take, None, Ok, Err, Result, ◌==◌, nat_le, nat_lt}
-use Rattle.std.specs.List.{list_any}
+use Rattle.std.specs.Prelude.{ℕ, ◌+◌, ◌-◌, ◌*◌, ◌/◌, ◌%◌, ◌^◌, Bool, cond, ◌||◌, List, length, None, Ok, Err, Result, ◌==◌, nat_le, nat_lt}
+use Rattle.std.specs.List.{list_any, filter_map}
 use Rattle.catalogue.specs.declared.Direction.TheVariants.{ToNetwork, ToModem}
 use Rattle.catalogue.specs.declared.Rule.TheVariants.{StrikeOrder}
 use Rattle.catalogue.specs.declared.Companions.{Companions}
@@ -70,9 +70,9 @@ among xs i = list_any (λ x. x == i) xs
 abbrev pub narrowed_to : List ℕ → Meaning → Meaning
 narrowed_to xs m d i = cond (among xs i) (m d i) (answer (m d i).width None)
 
--- the identifiers of a list
+-- the identifiers of a list: those that its places hold, in order
 abbrev pub identifiers_of : IdentifierList → List ℕ
-identifiers_of l = take l.count l.identifiers
+identifiers_of l = filter_map (λ p. p) l.identifiers
 
 abbrev pub filled : Result IdentifierList CatalogueFault → Result (List ℕ) CatalogueFault
 filled (Ok l) = Ok (identifiers_of l)

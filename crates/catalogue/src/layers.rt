@@ -1,10 +1,11 @@
 // The operator layer and the narrowing layer. Each stands over any catalogue and is one.
-ghost use Rattle.std.specs.Prelude.{◌≡◌, ◌^◌, ◌<◌, ◌≤◌, ◌⊎◌, length};
+ghost use Rattle.std.specs.Prelude.{◌≡◌, ◌^◌, ◌<◌, ◌≤◌, ◌⊎◌, length, slice_get};
 ghost use Rattle.catalogue.specs.Layers as layers;
 ghost use Rattle.catalogue.specs.Operators as operators;
 ghost use Rattle.catalogue.specs.OverAny.{operator_lawful, narrowing_lawful};
 
 use crate::{Answer, Catalogue, Companions, Direction, Layer, OperatorCode, Refusal, Row, Rule};
+use std::array;
 
 /// The most identifiers of a narrowing list.
 pub const MOST_IDENTIFIERS: usize = 16;
@@ -46,11 +47,11 @@ impl From<CatalogueFault> for Refusal {
 
 impl OperatorCode {
     /// The octets of an operator: of its mobile country code, its mobile network code, and how many digits the latter has.
+    #[tactic(auto, using(crate::proofs::Codes::operator_law))]
     pub fn new(mcc: u16, mnc: u16, digits: u8) -> Result<OperatorCode, CatalogueFault>
         ensures answer { result ≡ layers.operator_code mcc mnc digits }
         ensures law { operators.OperatorLaw mcc mnc digits }
     {
-        operator_law(mcc, mnc, digits);
         let limit = match digits {
             2 => 100,
             _ => 1000,
@@ -66,11 +67,6 @@ impl OperatorCode {
         }
     }
 }
-
-// The law of an operator's octets, which `OperatorCode::new` passes on.
-fn operator_law(mcc: u16, mnc: u16, digits: u8)
-    ensures law { operators.OperatorLaw mcc mnc digits }
-{}
 
 // Two digits in an octet, the high half first.
 fn halves(high: u16, low: u16) -> u8
@@ -107,8 +103,7 @@ fn octets_of(mcc: u16, mnc: u16, digits: u8) -> OperatorCode
 /// The identifiers that a narrowing layer lets through.
 #[derive(Clone, Copy)]
 pub struct IdentifierList {
-    identifiers: [u16; MOST_IDENTIFIERS],
-    count: usize,
+    identifiers: [Option<u16>; MOST_IDENTIFIERS],
 }
 
 impl IdentifierList {
@@ -122,6 +117,16 @@ impl IdentifierList {
         }
         Ok(copied(identifiers))
     }
+
+    // Whether an identifier is listed.
+    fn contains(&self, identifier: u16) -> bool
+        ensures answer { result ≡ layers.among (layers.identifiers_of self.now) identifier }
+    {
+        self.identifiers
+            .iter()
+            .filter_map(|held| *held)
+            .any(|held| held == identifier)
+    }
 }
 
 // The list of identifiers that are few enough.
@@ -129,12 +134,12 @@ fn copied(identifiers: &[u16]) -> IdentifierList
     requires few { length identifiers.now ≤ 16 }
     ensures answer { layers.identifiers_of result ≡ identifiers.now }
 {
-    let count = identifiers.len();
-    let mut held = [0; MOST_IDENTIFIERS];
-    held[0..count].copy_from_slice(identifiers);
     IdentifierList {
-        identifiers: held,
-        count,
+        identifiers: array::from_fn(
+            |place|
+                ensures { result ≡ slice_get identifiers.entry.now place }
+            { identifiers.get(place).copied() },
+        ),
     }
 }
 
@@ -169,12 +174,13 @@ impl<C: Catalogue> Catalogue for OperatorLayer<C> {
 impl<C: Catalogue> Catalogue for NarrowingLayer<C> {
     ghost meaning = { λ s. layers.narrowed_to (layers.identifiers_of s.list) (C.Catalogue.meaning s.below) };
 
-    ghost lawful = { λ c. narrowing_lawful (layers.identifiers_of c.list) (C.Catalogue.meaning c.below) (C.Catalogue.lawful c.below) };
+    ghost lawful = { λ c. narrowing_lawful (layers.identifiers_of c.list) (C.Catalogue.meaning c.below)
+        (C.Catalogue.lawful c.below) };
 
     // The width is that of the catalogue below, also where the identifier is not listed: units are cut alike.
     fn answer(&self, direction: Direction, identifier: u16) -> Answer {
         let below = self.below.answer(direction, identifier);
-        if listed(&self.list).contains(&identifier) {
+        if self.list.contains(identifier) {
             below
         } else {
             Answer {
@@ -183,17 +189,6 @@ impl<C: Catalogue> Catalogue for NarrowingLayer<C> {
             }
         }
     }
-}
-
-// The identifiers of a list.
-fn listed(list: &IdentifierList) -> &[u16]
-    ensures answer { result.now ≡ layers.identifiers_of list.now }
-{
-    let count = list.count;
-    if count < MOST_IDENTIFIERS {
-        return &list.identifiers[0..count];
-    }
-    &list.identifiers
 }
 
 // What an operator layer answers for the identifier of its strike orders.

@@ -1,8 +1,7 @@
-use Rattle.std.proofs.Common.{length, ap, ◌∙◌}
-use Rattle.std.proofs.lemmas.List.{take_at}
+use Rattle.std.proofs.Common.{rules}
+use Rattle.catalogue.proofs.Identifiers.{placed_by_calls}
 use Rattle.catalogue.proofs.layers.copied.Goals as goal
 
 pub returns : goal.returns
 returns c =
-    let same = c.copy_from_slice.ensures.after in
-    record { answer = take_at c.copy_from_slice.new.self _ (length c.args.identifiers.now) (ap length same) ∙ same }
+    record { answer = placed_by_calls _ _ c.args.identifiers.now c.from_fn.result 16 c.from_fn.ensures.items c.requires.few (λ i o q called. search rules) }
