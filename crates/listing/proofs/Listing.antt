@@ -34,11 +34,11 @@ module _ (m : Meaning) (d : Direction) (start : Position) (was : List ℕ) where
       )
 
   -- one line more
-  pub listed_more : (s t : Position) (text : List ℕ) (u : Placed) → OneMore m d s u t → Listed s text → Listed t (text ++ ended (unit_line u))
-  listed_more s t text u one h us q =
+  pub listed_more : (s t : Position) (before after : List ℕ) (u : Placed) → OneMore m d s u t → after ≡ before ++ ended (unit_line u) → Listed s before → Listed t after
+  listed_more s t before after u one w h us q =
       let now = h us q in
-      let next = more s t text u one now.0 now.1 (cut_from m d t) refl in
-      (next.0, next.1, next.2 ∙ now.2)
+      let next = more s t before u one now.0 now.1 (cut_from m d t) refl in
+      (next.0, next.1, ap (λ (l : List ℕ). l ++ unit_lines m d t.place next.0) w ∙ next.2 ∙ now.2)
 
   -- at the end nothing is to come
   pub listed_all : (s : Position) (text : List ℕ) → cut_from m d s ≡ cut [] → Listed s text → (us : List ElementUnit) → cut_from m d start ≡ cut us → text ≡ was ++ unit_lines m d start.place us

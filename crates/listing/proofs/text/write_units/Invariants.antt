@@ -1,7 +1,7 @@
 use Rattle.std.proofs.Common.{length, drop, string_bytes}
 use Rattle.element.specs.Walk.{position}
 use Rattle.listing.proofs.Listing.{Listed}
-use Rattle.listing.proofs.text.push_units.Given as goal
+use Rattle.listing.proofs.text.write_units.Given as goal
 
 abbrev pub invariant-loop-next : goal.invariant-loop-next
 invariant-loop-next g l =

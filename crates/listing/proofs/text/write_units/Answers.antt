@@ -1,18 +1,13 @@
-use Rattle.std.proofs.Common.{◌≡◌, ℕ, List, ◌++◌, Some, None, Ok, Err, string_bytes, sym, ap, ◌∙◌, subst}
+use Rattle.std.proofs.Common.{Some, None, Ok, Err, string_bytes, ap, ◌∙◌}
 use Rattle.catalogue.specs.Meaning.{Meaning}
 use Rattle.element.specs.Walk.{position, placed_unit}
 use Rattle.element.proofs.Walk.{OneMore, turned}
-use Rattle.listing.specs.Lines.{unit_line}
-use Rattle.listing.specs.Listing.{ended}
-use Rattle.listing.proofs.Listing.{Listed, listed_none, listed_more, listed_all, listed_never}
-use Rattle.listing.proofs.text.push_units.Given as given
-use Rattle.listing.proofs.text.push_units.Goals as goal
-
-pub loop-next-init : goal.loop-next-init
-loop-next-init g c = listed_none (g.C.Catalogue.meaning c.args.catalogue.now) c.args.direction (position c.args.cursor) (string_bytes c.args.text.now)
+use Rattle.listing.proofs.Listing.{listed_more, listed_all, listed_never}
+use Rattle.listing.proofs.text.write_units.Given as given
+use Rattle.listing.proofs.text.write_units.Goals as goal
 
 -- what a turn of the loop finds
-in_turn : (g : given.Over) (c : goal.After-drop-line-in-Ok g) → OneMore (g.C.Catalogue.meaning c.args.catalogue.now) c.args.direction (position c.loop-next.cursor) (placed_unit c.in-Some.unit) (position c.next_unit.new.self)
+in_turn : (g : given.Over) (c : goal.In_ok-writeln g) → OneMore (g.C.Catalogue.meaning c.args.catalogue.now) c.args.direction (position c.loop-next.cursor) (placed_unit c.in-Some.unit) (position c.next_unit.new.self)
 in_turn g c =
     turned (g.C.Catalogue.meaning c.args.catalogue.now) c.args.direction (position c.loop-next.cursor) (g.met.C.Catalogue.lawful c.args.catalogue.now) _ (Ok (Some c.in-Some.unit)) _ c.next_unit.ensures.answer c.next_unit.ensures.state
     (c.in-Ok.is ∙ ap (λ o. Ok o) c.in-Some.is)
@@ -22,13 +17,7 @@ loop-next-smaller g c = (in_turn g c).less
 
 pub loop-next-preserved : goal.loop-next-preserved
 loop-next-preserved g c =
-    let m : Meaning = g.C.Catalogue.meaning c.args.catalogue.now in
-    let text = string_bytes c.loop-next.text in
-    let t = position c.next_unit.new.self in
-    let line : string_bytes c.push_line.new.text ≡ text ++ ended (unit_line (placed_unit c.in-Some.unit)) =
-    c.in_ok-push_line.ensures.text ∙ ap (λ (l : List ℕ). text ++ ended l) (c.as_str.ensures.value ∙ c.in_ok-line.ensures.answer) in
-    subst (Listed m c.args.direction (position c.args.cursor) (string_bytes c.args.text.now) t) (sym line)
-    (listed_more m c.args.direction (position c.args.cursor) (string_bytes c.args.text.now) (position c.loop-next.cursor) t text (placed_unit c.in-Some.unit) (in_turn g c) c.loop-next.invariant)
+    listed_more _ _ _ _ (position c.loop-next.cursor) (position c.next_unit.new.self) (string_bytes c.loop-next.text) (string_bytes c.writeln.new.self) (placed_unit c.in-Some.unit) (in_turn g c) c.in_ok-writeln.ensures.bytes c.loop-next.invariant
 
 pub returns-in_default-next : goal.returns-in_default-next
 returns-in_default-next g c =
