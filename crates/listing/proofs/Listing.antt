@@ -1,57 +1,23 @@
--- A listing, line by line: what stands in the text so far, and the lines to come.
-use Rattle.std.proofs.Common.{◌≡◌, ℕ, List, [], ◌∷◌, ◌++◌, sym, refl, ap, ◌∙◌, ap₂, append_assoc, append-nil, arith}
+-- The lines of units, and the listing of a whole element.
+use Rattle.std.proofs.Common.{◌≡◌, ℕ, ◌+◌, List, [], ◌∷◌, ◌++◌, length, sym, refl, ap, ◌∙◌, ap₂}
 use Rattle.catalogue.specs.declared.Direction.{Direction}
 use Rattle.catalogue.specs.Meaning.{Meaning}
-use Rattle.element.specs.Units.{ElementUnit}
-use Rattle.element.specs.Reading.{Cut, cut, stuck_at, onto}
-use Rattle.element.specs.Walk.{Placed, Position, cut_from}
-use Rattle.element.proofs.Walk.{unit_of, OneMore}
-use Rattle.listing.specs.Lines.{unit_line}
-use Rattle.listing.specs.Listing.{ended, unit_lines}
+use Rattle.element.specs.Outer.{options, header}
+use Rattle.element.specs.Units.{ElementUnit, size}
+use Rattle.element.specs.Reading.{Reading}
+use Rattle.element.specs.Walk.{Walk, Placed, placed, placed_from}
+use Rattle.element.specs.Left.{units_on, units_left, HandsOut}
+use Rattle.listing.specs.Lines.{heading, unit_line, count_line}
+use Rattle.listing.specs.Listing.{ended, placed_lines, unit_lines, listing_by, listing}
 
-module _ (m : Meaning) (d : Direction) (start : Position) (was : List ℕ) where
-  -- the text and the lines of the units to come are what stood there and the lines of all units
-  abbrev pub Listed : Position → List ℕ → Type 0
-  Listed s text =
-      (us : List ElementUnit) → cut_from m d start ≡ cut us → (rest : List ElementUnit) × (cut_from m d s ≡ cut rest) × (text ++ unit_lines m d s.place rest ≡ was ++ unit_lines m d start.place us)
+placed_lines-from : (m : Meaning) (d : Direction) (p : ℕ) (us : List ElementUnit) → placed_lines (placed_from m d p us) ≡ unit_lines m d p us
+placed_lines-from m d p [] = refl
+placed_lines-from m d p (u ∷ us) = ap (λ (l : List ℕ). ended (unit_line (placed m d p u)) ++ l) (placed_lines-from m d (p + size m d u) us)
 
-  pub listed_none : Listed start was
-  listed_none us q = (us, q, refl)
-
-  more : (s t : Position) (text : List ℕ) (u : Placed) → OneMore m d s u t → (rest : List ElementUnit) → cut_from m d s ≡ cut rest → (c : Cut) → cut_from m d t ≡ c → (r : List ElementUnit) × (c ≡ cut r) × ((text ++ ended (unit_line u)) ++ unit_lines m d t.place r ≡ text ++ unit_lines m d s.place rest)
-  more s t text u one rest q (stuck_at p) w =
-      let x : stuck_at p ≡ cut rest = sym (ap (onto (unit_of u)) w) ∙ sym one.cuts ∙ q in
-      let z : ◌≡◌ {A = ℕ} 0 1 = cc in
-      absurd (omega (arith, z))
-  more s t text u one rest q (cut r) w =
-      let x : cut (unit_of u ∷ r) ≡ cut rest = sym (ap (onto (unit_of u)) w) ∙ sym one.cuts ∙ q in
-      let y : unit_of u ∷ r ≡ rest = cc in (
-        r,
-        refl,
-        append_assoc text (ended (unit_line u)) (unit_lines m d t.place r)
-            ∙ ap₂ (λ (v : Placed) (p : ℕ). text ++ (ended (unit_line v) ++ unit_lines m d p r)) one.here one.behind
-            ∙ ap (λ (l : List ElementUnit). text ++ unit_lines m d s.place l) y,
-      )
-
-  -- one line more
-  pub listed_more : (s t : Position) (text : List ℕ) (u : Placed) → OneMore m d s u t → Listed s text → Listed t (text ++ ended (unit_line u))
-  listed_more s t text u one h us q =
-      let now = h us q in
-      let next = more s t text u one now.0 now.1 (cut_from m d t) refl in
-      (next.0, next.1, next.2 ∙ now.2)
-
-  -- at the end nothing is to come
-  pub listed_all : (s : Position) (text : List ℕ) → cut_from m d s ≡ cut [] → Listed s text → (us : List ElementUnit) → cut_from m d start ≡ cut us → text ≡ was ++ unit_lines m d start.place us
-  listed_all s text e h us q =
-      let now = h us q in
-      let x : cut [] ≡ cut now.0 = sym e ∙ now.1 in
-      let y : [] ≡ now.0 = cc in
-      sym (append-nil text) ∙ ap (λ (l : List ElementUnit). text ++ unit_lines m d s.place l) y ∙ now.2
-
-  -- where a unit runs past the end there is no whole element
-  pub listed_never : (s : Position) (text : List ℕ) (p : ℕ) → cut_from m d s ≡ stuck_at p → Listed s text → (us : List ElementUnit) → cut_from m d start ≡ cut us → ⊥
-  listed_never s text p e h us q =
-      let now = h us q in
-      let x : stuck_at p ≡ cut now.0 = sym e ∙ now.1 in
-      let z : ◌≡◌ {A = ℕ} 0 1 = cc in
-      omega (arith, z)
+-- the heading, the lines of the units that a whole element hands out, and their number are its listing
+pub listing_whole : (m : Meaning) (d : Direction) (e : List ℕ) (o : ℕ) (w : Walk) → HandsOut m d options e o w → ended heading ++ (placed_lines (units_left w) ++ ended (count_line (length (units_left w)) (length e))) ≡ listing m d e
+listing_whole m d e o w so =
+    let us = units_on w in
+    let left : units_left w ≡ placed_from m d (header options) us = ap (λ (x : Walk). placed_from x.meaning x.direction x.position.place us) so.walk in
+    ap₂ (λ (ls : List ℕ) (n : ℕ). ended heading ++ (ls ++ ended (count_line n (length e)))) (ap placed_lines left ∙ placed_lines-from m d (header options) us) so.count
+    ∙ ap (listing_by m d (length e)) (sym so.whole_element)

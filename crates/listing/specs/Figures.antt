@@ -1,5 +1,5 @@
 -- Hexadecimal figures: the character of a half octet, and the four of an identifier.
-use Rattle.std.specs.Prelude.{◌≡◌, ℕ, ◌+◌, ◌-◌, ◌*◌, ◌/◌, ◌%◌, cond, List, [], ◌∷◌, map, codes, nat_lt}
+use Rattle.std.specs.Prelude.{◌≡◌, ℕ, ◌+◌, ◌-◌, ◌*◌, ◌/◌, ◌%◌, ◌^◌, ◌<◌, cond, List, [], ◌∷◌, map, codes, nat_lt}
 
 -- the character of a half octet: 0 to 9 are 48 to 57, A to F are 65 to 70
 abbrev pub figure : ℕ → ℕ
@@ -27,3 +27,7 @@ value_after n (c ∷ cs) = value_after (16 * n + half_of c) cs
 
 abbrev pub value_of : List ℕ → ℕ
 value_of cs = value_after 0 cs
+
+-- the figures of an identifier stand for it
+abbrev pub IdentifierLaw : Type 0
+IdentifierLaw = (i : ℕ) → i < 2 ^ 16 → value_of (figures_of i) ≡ i

@@ -6,12 +6,17 @@ use Rattle.element.specs.Outer.{options, header}
 use Rattle.element.specs.Units.{ElementUnit, size}
 use Rattle.element.specs.Reading.{Reading, whole, declined, reads}
 use Rattle.element.specs.Refusals.{refusal_of}
-use Rattle.element.specs.Walk.{placed}
+use Rattle.element.specs.Walk.{Placed, placed}
 use Rattle.listing.specs.Lines.{heading, unit_line, count_line, fault_line}
 
 -- a line and its line feed
 abbrev pub ended : List ℕ → List ℕ
 ended line = line ++ 10 ∷ []
+
+-- the lines of units, each where it stands
+abbrev pub placed_lines : List Placed → List ℕ
+placed_lines [] = []
+placed_lines (p ∷ ps) = ended (unit_line p) ++ placed_lines ps
 
 module _ (m : Meaning) (d : Direction) where
   -- the lines of units that stand from the place p on

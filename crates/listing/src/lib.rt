@@ -1,4 +1,4 @@
-// The text that the lister prints: one function for each line, and one for the whole listing.
+// The text that the lister prints: a type for each line, and a function for the whole listing.
 #![tactic(auto)]
 
 mod lines;
@@ -6,5 +6,5 @@ mod lines;
 mod tests;
 mod text;
 
-pub use lines::{count_line, fault_line, heading, hex_figure, unit_line};
+pub use lines::{CountLine, FaultLine, UnitLine, heading, hex_figure};
 pub use text::list;

@@ -1,12 +1,12 @@
 // The lines of a listing. None ends with a line feed.
-ghost use Rattle.std.specs.Prelude.{◌≡◌, ◌%◌, IfOk, string_bytes};
+ghost use Rattle.std.specs.Prelude.{◌≡◌, ◌%◌, Some};
 ghost use Rattle.element.specs.Walk.{placed_unit};
 ghost use Rattle.listing.specs.Figures as figures;
 ghost use Rattle.listing.specs.Lines as lines;
 
 use catalogue::Refusal;
 use element::PlacedUnit;
-use std::alloc::{AllocError, Global};
+use std::fmt;
 
 /// The hexadecimal figure of the low half of an octet, in upper case.
 pub fn hex_figure(octet: u8) -> char
@@ -29,42 +29,67 @@ pub fn heading() -> &'static str
 }
 
 /// A unit's line: its place, its identifier in hexadecimal and the length of its contents.
-pub fn unit_line(heap: Global, unit: PlacedUnit<'_>) -> Result<String, AllocError>
-    ensures answer { IfOk result (λ s. string_bytes s ≡ lines.unit_line (placed_unit unit.entry)) }
-    ensures law { figures.value_of (figures.figures_of unit.entry.identifier) ≡ unit.entry.identifier }
-{
-    let place = unit.place;
-    let identifier = figures_of(heap, unit.identifier)?;
-    let length = unit.contents.len();
-    format!(in heap; "{place} {identifier} {length}")
+#[derive(Clone, Copy)]
+pub struct UnitLine<'a>(pub PlacedUnit<'a>);
+
+impl fmt::Display for UnitLine<'_> {
+    ghost output = { λ line. Some (lines.unit_line (placed_unit line.0)) };
+
+    fn fmt<W: fmt::Write>(&self, f: &mut fmt::Formatter<W>) -> fmt::Result {
+        let unit = self.0;
+        let place = unit.place;
+        let identifier = Figures(unit.identifier);
+        let length = unit.contents.len();
+        write!(f, "{place} {identifier} {length}")
+    }
 }
 
 /// The last line: how many units and octets the element has, and how it was read.
-pub fn count_line(heap: Global, units: usize, octets: usize) -> Result<String, AllocError>
-    ensures answer { IfOk result (λ s. string_bytes s ≡ lines.count_line units octets) }
-{
-    format!(in heap; "{units} units, {octets} octets, to modem, long edition")
+#[derive(Clone, Copy, PartialEq, Debug)]
+pub struct CountLine {
+    pub units: usize,
+    pub octets: usize,
+}
+
+impl fmt::Display for CountLine {
+    ghost output = { λ line. Some (lines.count_line line.units line.octets) };
+
+    fn fmt<W: fmt::Write>(&self, f: &mut fmt::Formatter<W>) -> fmt::Result {
+        let CountLine { units, octets } = *self;
+        write!(f, "{units} units, {octets} octets, to modem, long edition")
+    }
 }
 
 /// The only line for an element that is declined: the refusal's number and place.
-pub fn fault_line(heap: Global, refusal: Refusal) -> Result<String, AllocError>
-    ensures answer { IfOk result (λ s. string_bytes s ≡ lines.fault_line refusal) }
-{
-    let number = refusal.number;
-    let place = refusal.place;
-    format!(in heap; "fault {number} at {place}")
+#[derive(Clone, Copy, PartialEq, Debug)]
+pub struct FaultLine(pub Refusal);
+
+impl fmt::Display for FaultLine {
+    ghost output = { λ line. Some (lines.fault_line line.0) };
+
+    fn fmt<W: fmt::Write>(&self, f: &mut fmt::Formatter<W>) -> fmt::Result {
+        let Refusal { number, place, .. } = self.0;
+        write!(f, "fault {number} at {place}")
+    }
 }
 
-// The four hexadecimal figures of an identifier, the highest first; read as a number they are the identifier.
-fn figures_of(heap: Global, identifier: u16) -> Result<String, AllocError>
-    ensures answer { IfOk result (λ s. string_bytes s ≡ figures.figures_of identifier) }
-    ensures law { figures.value_of (figures.figures_of identifier) ≡ identifier }
-{
-    let high = (identifier / 256) as u8;
-    let low = (identifier % 256) as u8;
-    let first = hex_figure(high / 16);
-    let second = hex_figure(high);
-    let third = hex_figure(low / 16);
-    let fourth = hex_figure(low);
-    format!(in heap; "{first}{second}{third}{fourth}")
+// The four hexadecimal figures of an identifier, the highest first.
+#[derive(Clone, Copy)]
+struct Figures(u16);
+
+impl fmt::Display for Figures {
+    ghost output = { λ identifier. Some (figures.figures_of identifier.0) };
+
+    #[tactic(auto, using(crate::proofs::Figures::figure_written))]
+    fn fmt<W: fmt::Write>(&self, f: &mut fmt::Formatter<W>) -> fmt::Result {
+        let [high, low] = self.0.to_be_bytes();
+        write!(
+            f,
+            "{}{}{}{}",
+            hex_figure(high / 16),
+            hex_figure(high),
+            hex_figure(low / 16),
+            hex_figure(low)
+        )
+    }
 }
