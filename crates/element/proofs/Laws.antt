@@ -1,5 +1,5 @@
 -- The law of reading, of any lawful outer form, and the summary that `read` answers.
-use Rattle.std.proofs.Common.{◌≡◌, ℕ, List, get_or, w8, Fits, sym}
+use Rattle.std.proofs.Common.{ℕ, List, get_or, w8, Fits, sym}
 use Rattle.catalogue.specs.declared.Direction.{Direction}
 use Rattle.catalogue.specs.Meaning.{Meaning}
 use Rattle.catalogue.specs.Laws.{Lawful}

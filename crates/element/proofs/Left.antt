@@ -1,5 +1,5 @@
 -- One unit handed out of those that are left.
-use Rattle.std.proofs.Common.{◌≡◌, ℕ, suc, ◌+◌, ◌-◌, ◌<◌, List, [], ◌∷◌, length, Some, None, Ok, Option, Result, sym, refl, ap, ◌∙◌, subst, ap₂, arith}
+use Rattle.std.proofs.Common.{◌≡◌, ℕ, suc, ◌+◌, ◌-◌, List, [], ◌∷◌, length, Some, Ok, Option, Result, sym, refl, ap, ◌∙◌, ap₂, arith}
 use Rattle.catalogue.specs.declared.Direction.{Direction}
 use Rattle.catalogue.specs.Meaning.{Meaning}
 use Rattle.catalogue.specs.Laws.{Lawful}
@@ -7,7 +7,7 @@ use Rattle.element.specs.declared.cursor.PlacedUnit.{PlacedUnit}
 use Rattle.element.specs.declared.reader.ReaderFault.{ReaderFault}
 use Rattle.element.specs.Units.{ElementUnit, size}
 use Rattle.element.specs.Reading.{Cut, cut, stuck_at, onto}
-use Rattle.element.specs.Walk.{Placed, Walk, seen, placed_unit, placed, placed_from, unit_before, one_on, cut_on}
+use Rattle.element.specs.Walk.{Placed, Walk, seen, placed_unit, placed_from, unit_before, one_on, cut_on}
 use Rattle.element.specs.Left.{count_of, cut_units, units_left}
 use Rattle.element.proofs.Walk.{unit_of, turned_on}
 

@@ -5,7 +5,7 @@ use Rattle.catalogue.specs.Meaning.{Meaning}
 use Rattle.element.specs.declared.reader.ReaderFault.{ReaderFault}
 use Rattle.element.specs.Outer.{Outer, header}
 use Rattle.element.specs.Units.{ElementUnit}
-use Rattle.element.specs.Reading.{Reading, whole, declined, Cut, cut, stuck_at, framed, frame, read_framed, reads, units_of}
+use Rattle.element.specs.Reading.{Reading, whole, declined, Cut, cut, stuck_at, framed, frame, read_framed, reads}
 use Rattle.element.specs.Walk.{from_header, cut_on}
 use Rattle.element.specs.Left.{cut_units, units_on, HandsOut}
 use Rattle.element.specs.Laws.{Summary, summary}

@@ -1,5 +1,5 @@
 -- The checks one after the other give the verdict.
-use Rattle.std.proofs.Common.{◌≡◌, ℕ, Bool, true, false, cond, List, length, Some, None, Ok, Err, Option, Result, refl}
+use Rattle.std.proofs.Common.{◌≡◌, ℕ, Bool, true, false, cond, List, length, Some, None, Ok, Err, Option, refl}
 use Rattle.catalogue.specs.declared.Row.{Row}
 use Rattle.element.specs.Units.{ElementUnit}
 use Rattle.element.specs.Walk.{Walk}

@@ -1,5 +1,5 @@
 -- The checks one after the other, as the code makes them: what a unit that passes has, or the verdict of the first check that fails.
-use Rattle.std.specs.Prelude.{ℕ, Bool, cond, List, length, Some, None, Ok, Err, Option, Result}
+use Rattle.std.specs.Prelude.{ℕ, cond, List, length, Some, None, Ok, Err, Option, Result}
 use Rattle.catalogue.specs.declared.Row.{Row}
 use Rattle.element.specs.Units.{ElementUnit}
 use Rattle.element.specs.Walk.{Walk}

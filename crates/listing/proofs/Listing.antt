@@ -4,8 +4,7 @@ use Rattle.catalogue.specs.declared.Direction.{Direction}
 use Rattle.catalogue.specs.Meaning.{Meaning}
 use Rattle.element.specs.Outer.{options, header}
 use Rattle.element.specs.Units.{ElementUnit, size}
-use Rattle.element.specs.Reading.{Reading}
-use Rattle.element.specs.Walk.{Walk, Placed, placed, placed_from}
+use Rattle.element.specs.Walk.{Walk, placed, placed_from}
 use Rattle.element.specs.Left.{units_on, units_left, HandsOut}
 use Rattle.listing.specs.Lines.{heading, unit_line, count_line}
 use Rattle.listing.specs.Listing.{ended, placed_lines, unit_lines, listing_by, listing}

@@ -1,4 +1,4 @@
-use Rattle.std.proofs.Common.{◌≡◌, ℕ, ◌+◌, ◌≤◌, List, length, set, sym, ap, ◌∙◌, subst, rules, arith}
+use Rattle.std.proofs.Common.{◌≡◌, ℕ, ◌+◌, set, sym, ap, ◌∙◌, subst}
 use Rattle.element.specs.Handed.{left_of, walk_of_units}
 use Rattle.element.specs.Walk.{Walk, placed_unit, unit_of}
 use Rattle.element.specs.Left.{units_left}

@@ -1,4 +1,4 @@
-use Rattle.std.proofs.Common.{◌≡◌, ◌+◌, Some, Ok, sym, ap, ◌∙◌, rules, arith}
+use Rattle.std.proofs.Common.{sym, ap, ◌∙◌, rules, arith}
 use Rattle.element.specs.Walk.{walk_of, cut_on, placed_unit}
 use Rattle.element.proofs.Walk.{unit_of, turned_on}
 use Rattle.element.proofs.Counts.{counted_with, counted_more}

@@ -1,6 +1,5 @@
-use Rattle.std.proofs.Common.{◌≡◌, ◌+◌, ◌<◌, length, Some, Ok, ap, rules, arith}
-use Rattle.element.specs.Walk.{placed_unit, walk_of}
-use Rattle.element.proofs.Left.{HandedOut, handed_out}
+use Rattle.std.proofs.Common.{length, ap, rules}
+use Rattle.element.proofs.Left.{handed_out}
 use Rattle.element.proofs.units.UnitsIterator.next.Goals as goal
 
 pub invariant_of-self-2 : goal.invariant_of-self-2
