@@ -118,7 +118,7 @@ impl IdentifierList {
         Ok(copied(identifiers))
     }
 
-    // Whether an identifier is listed.
+    // Whether an identifier is listed. By `filter_map`, since the check does not follow `flatten` over options.
     fn contains(&self, identifier: u16) -> bool
         ensures answer { result ≡ layers.among (layers.identifiers_of self.now) identifier }
     {
