@@ -5,12 +5,8 @@ use crate::{
 };
 use std::test::Fail;
 
-fn short(direction: Direction, identifier: u16) -> Option<Row> {
-    Edition::Short.answer(direction, identifier).entry
-}
-
-fn long(direction: Direction, identifier: u16) -> Option<Row> {
-    Edition::Long.answer(direction, identifier).entry
+fn entry(edition: Edition, direction: Direction, identifier: u16) -> Option<Row> {
+    edition.answer(direction, identifier).entry
 }
 
 fn row(rule: Rule, slot: u8, companions: Companions) -> Option<Row> {
@@ -24,20 +20,26 @@ fn row(rule: Rule, slot: u8, companions: Companions) -> Option<Row> {
 #[test]
 fn shared_rows(rt: HostRuntime) {
     let dns = row(Rule::Ipv4, 3, Companions::None);
-    assert_eq!(rt; short(Direction::ToModem, 0x000D), dns);
-    assert_eq!(rt; long(Direction::ToModem, 0x000D), dns);
+    assert_eq!(rt; entry(Edition::Short, Direction::ToModem, 0x000D), dns);
+    assert_eq!(rt; entry(Edition::Long, Direction::ToModem, 0x000D), dns);
     let request = row(Rule::Empty, 0, Companions::None);
-    assert_eq!(rt; short(Direction::ToNetwork, 0x000D), request);
-    assert_eq!(rt; long(Direction::ToNetwork, 0x0006), None);
+    assert_eq!(rt;
+        entry(Edition::Short, Direction::ToNetwork, 0x000D),
+        request
+    );
+    assert_eq!(rt; entry(Edition::Long, Direction::ToNetwork, 0x0006), None);
 }
 
 #[test]
 fn added_rows(rt: HostRuntime) {
     let reselection = row(Rule::Empty, 0, Companions::Two(0x0001, 0x000C));
-    assert_eq!(rt; long(Direction::ToNetwork, 0x0012), reselection);
-    assert_eq!(rt; long(Direction::ToModem, 0x0012), None);
-    assert_eq!(rt; short(Direction::ToNetwork, 0x0012), None);
-    assert_eq!(rt; long(Direction::ToModem, 0xFF01), None);
+    assert_eq!(rt;
+        entry(Edition::Long, Direction::ToNetwork, 0x0012),
+        reselection
+    );
+    assert_eq!(rt; entry(Edition::Long, Direction::ToModem, 0x0012), None);
+    assert_eq!(rt; entry(Edition::Short, Direction::ToNetwork, 0x0012), None);
+    assert_eq!(rt; entry(Edition::Long, Direction::ToModem, 0xFF01), None);
 }
 
 fn code(first: u8, second: u8, third: u8) -> Result<OperatorCode, CatalogueFault> {

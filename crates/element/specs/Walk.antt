@@ -139,3 +139,7 @@ one_on w = record { meaning = w.meaning; direction = w.direction; position = ste
 -- the octets that a walk has still to cut
 abbrev pub cut_on : Walk → Cut
 cut_on w = cut_from w.meaning w.direction w.position
+
+-- the walk at the same position, under another meaning and direction
+abbrev pub under : Meaning → Direction → Walk → Walk
+under m d w = record { meaning = m; direction = d; position = w.position }

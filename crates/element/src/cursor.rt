@@ -54,6 +54,19 @@ impl<'a, C: Catalogue> Cursor<'a, C> {
         Ok(found)
     }
 
+    /// A cursor at the same place, that reads by another catalogue and in that direction from there on.
+    pub fn under<D: Catalogue>(self, catalogue: &'a D, direction: Direction) -> Cursor<'a, D>
+        ensures answer { walk.walk_of D.meaning result
+            ≡ walk.under (D.meaning catalogue.now) direction (walk.walk_of C.meaning self.entry) }
+    {
+        Cursor {
+            catalogue,
+            direction,
+            octets: self.octets,
+            place: self.place,
+        }
+    }
+
     // The cursor before the first unit of a framed element.
     pub(crate) fn behind_header(
         catalogue: &'a C,

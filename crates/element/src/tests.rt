@@ -118,6 +118,10 @@ fn walks(rt: HostRuntime) -> Result<(), Fail> {
     assert_eq!(rt; flag.place, 10);
     assert_eq!(rt; flag.start, 13);
     assert!(rt; cursor.next_unit()?.is_none());
+    // with length fields of two octets the first unit's length is 04C0, and it runs past the end
+    let at_first = Cursor::open(&Edition::Long, Direction::ToModem, &element)?;
+    let mut wide = at_first.under(&Wide, Direction::ToModem);
+    assert_eq!(rt; wide.next_unit(), Err(ReaderFault::RunsPast(3)));
     // the units of the whole element are the same
     let mut units = read(&Edition::Long, Direction::ToModem, &element)?.units;
     assert_eq!(rt; units.next(), Some(dns));

@@ -15,9 +15,9 @@ pub fn hex_figure(octet: u8) -> char
 {
     let half = octet % 16;
     if half < 10 {
-        (b'0' + half) as char
+        char::from(b'0' + half)
     } else {
-        (b'A' + (half - 10)) as char
+        char::from(b'A' + (half - 10))
     }
 }
 
