@@ -100,7 +100,7 @@ fn octets_of(mcc: u16, mnc: u16, digits: u8) -> OperatorCode
     }
 }
 
-/// The identifiers that a narrowing layer lets through.
+/// The identifiers that a narrowing layer lets through. An array, since the core has no heap.
 #[derive(Clone, Copy)]
 pub struct IdentifierList {
     identifiers: [Option<u16>; MOST_IDENTIFIERS],

@@ -28,6 +28,7 @@ pub enum Layer {
 /// A declined call, by its line in the table of refusals.
 #[derive(Clone, Copy, PartialEq, Debug)]
 pub struct Refusal {
+    /// The line's number. It stays a number, since it is what leaves the device; in code each part's faults are an enum.
     pub number: u8,
     /// What this number counts depends on the refusal's number.
     pub place: usize,
@@ -84,10 +85,12 @@ pub enum Companions {
     Two(u16, u16),
 }
 
-/// A supported identifier: the rule on its contents, the slot that keeps its value (1 to 9, or 0 for none), its companions.
+/// A supported identifier: the rule on its contents, the slot that keeps its value, its companions.
 #[derive(Clone, Copy, PartialEq, Debug)]
 pub struct Row {
     pub rule: Rule,
+    /// 1 to 9, or 0, which keeps nothing and is never full. It stays a number: the rules speak of slot 0 as of the others,
+    /// a slot's number is its bit in a wish, and whoever asks for a slot may name any number.
     pub slot: u8,
     pub companions: Companions,
 }

@@ -28,6 +28,7 @@ pub struct Cursor<'a, C> {
     place: usize,
 }
 
+// The catalogue and the direction come in with an element, here and at `read`; from there on the cursor carries them.
 impl<'a, C: Catalogue> Cursor<'a, C> {
     /// Stands before the first unit of an element, or gives the fault of the element's frame.
     pub fn open(
@@ -94,6 +95,7 @@ impl<'a, C: Catalogue> Cursor<'a, C> {
     pub(crate) fn count_units(self) -> Result<usize, ReaderFault>
         ensures answer { result ≡ counts.counted (walk.cut_on (walk.walk_of C.meaning self.entry)) }
     {
+        // no iterator has a count here: a cursor stays at a fault and gives it again
         let mut cursor = self;
         let mut units = 0;
         while let Some(_) = cursor.next_unit()? {

@@ -36,6 +36,7 @@ impl<'a, C: Catalogue> Units<'a, C> {
     }
 }
 
+// By hand, as a derive is refused on a struct with a ghost field (`derive-over-ghost-field`).
 impl<'a, C: Catalogue> Clone for Units<'a, C> {
     ghost use Rattle.std.specs.Prelude.{⊤};
 

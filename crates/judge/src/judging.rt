@@ -72,7 +72,7 @@ impl From<ReaderFault> for JudgeFault {
 }
 
 /// Judges an element: writes a row for each unit into the caller's rows and answers their number; later rows stay. Declined,
-/// it leaves every row as it was.
+/// it leaves every row as it was. The rows are the caller's, since the core has no heap.
 #[tactic(auto, using(crate::proofs::Cases::worked_cases))]
 pub fn judge<C: Catalogue>(
     catalogue: &C,

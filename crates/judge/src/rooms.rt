@@ -2,7 +2,8 @@
 ghost use Rattle.std.specs.Prelude.{◌≡◌, ◌<◌, slice_index};
 ghost use Rattle.judge.specs.Rooms as rooms;
 
-// The number of values that each slot still takes. Slot 0 is not counted, and its number stays 0.
+// The number of values that each slot still takes, at the place of the slot's number. Slot 0 is not counted, and its number
+// stays 0. An array, since the core has no heap and the slots are known.
 #[derive(Drop)]
 pub(crate) struct Room {
     left: [u8; 10],

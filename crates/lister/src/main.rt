@@ -8,7 +8,7 @@ use listing::list;
 use std::io;
 use std::io::Read;
 
-/// The most octets that are read.
+/// The most octets that are read. They are held in an array, so that a longer input takes no more memory.
 const ROOM: usize = 300;
 
 fn main(rt: HostRuntime) -> io::Result<()> {
