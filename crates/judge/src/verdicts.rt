@@ -60,7 +60,7 @@ impl<'a, C: Catalogue> Judge<'a, C> {
     // Nothing is judged yet, so every slot takes as many values as it holds.
     pub(crate) fn new(units: Units<'a, C>) -> Judge<'a, C>
         ensures units { walk_of_units C.Catalogue result.units ≡ walk_of_units C.Catalogue units.entry }
-        ensures room { result.room.left ≡ rooms.all_free }
+        ensures room { result.room ≡ rooms.all_free }
     {
         Judge {
             units,
@@ -70,8 +70,8 @@ impl<'a, C: Catalogue> Judge<'a, C> {
 
     // The verdict of a unit; if it is accepted, its slot has room for one less.
     pub(crate) fn verdict(&mut self, unit: PlacedUnit<'_>) -> Verdict
-        ensures answer { result ≡ rooms.verdict_on (walk_of_units C.Catalogue self.old.units) self.old.room.left (unit_of unit.entry) }
-        ensures room { self.new.room.left ≡ rooms.left_on (walk_of_units C.Catalogue self.old.units) self.old.room.left (unit_of unit.entry) }
+        ensures answer { result ≡ rooms.verdict_on (walk_of_units C.Catalogue self.old.units) self.old.room (unit_of unit.entry) }
+        ensures room { self.new.room ≡ rooms.left_on (walk_of_units C.Catalogue self.old.units) self.old.room (unit_of unit.entry) }
         ensures units { walk_of_units C.Catalogue self.new.units ≡ walk_of_units C.Catalogue self.old.units }
     {
         match self.check(unit) {
@@ -85,7 +85,7 @@ impl<'a, C: Catalogue> Judge<'a, C> {
 
     // All checks, in their order: the slot of a unit that passes, or the verdict that the first to fail gives.
     fn check(&self, unit: PlacedUnit<'_>) -> Result<u8, Verdict>
-        ensures answer { result ≡ steps.slot_or_verdict (walk_of_units C.Catalogue self.now.units) self.now.room.left (unit_of unit.entry) }
+        ensures answer { result ≡ steps.slot_or_verdict (walk_of_units C.Catalogue self.now.units) self.now.room (unit_of unit.entry) }
     {
         let row = self.row(unit)?;
         if !self.has_companion(row.companions) {

@@ -12,14 +12,14 @@ loop-n-init g c =
     let all : left_of g.C.Catalogue c.into_iter-n-iterator.result.iter ≡ units_left w = cc in
     let zero : c.into_iter-n-iterator.result.count ≡ 0 = cc in
     record {
-      written = written_none w c.args.rows.now _ c.new-judge.result.room.left _ all c.new-judge.ensures.room zero;
+      written = written_none w c.args.rows.now _ c.new-judge.result.room _ all c.new-judge.ensures.room zero;
       units = c.new-judge.ensures.units;
     }
 
 pub loop-n-preserved : goal.loop-n-preserved
 loop-n-preserved g c =
     let w = walk_of_units g.C.Catalogue c.args.units in
-    let now = c.loop-n.judge.room.left in
+    let now = c.loop-n.judge.room in
     let n = c.loop-n.n-iterator.count in
     let old = c.args.rows.now in
     let unit = c.in-Some.unit in
@@ -30,10 +30,10 @@ loop-n-preserved g c =
     c.judged.ensures.answer ∙ ap (row_at u) (c.verdict.ensures.answer ∙ ap (λ (x : Walk). verdict_on x now (unit_of unit)) same) in
     let room = c.verdict.ensures.room ∙ ap (λ (x : Walk). left_on x now (unit_of unit)) same in
     let more =
-    written_more w old _ now n c.loop-n.rows c.loop-n.invariant.written u (left_of g.C.Catalogue c.next.new.self.iter) steps.0 c.requires.room c.judged.result row c.verdict.new.self.room.left room in
+    written_more w old _ now n c.loop-n.rows c.loop-n.invariant.written u (left_of g.C.Catalogue c.next.new.self.iter) steps.0 c.requires.room c.judged.result row c.verdict.new.self.room room in
     record {
       written =
-          subst (λ (k : ℕ). Written w old (left_of g.C.Catalogue c.next.new.self.iter) c.verdict.new.self.room.left k (set c.loop-n.rows c.in-Some.n c.judged.result)) (sym steps.2)
-          (subst (λ (k : ℕ). Written w old (left_of g.C.Catalogue c.next.new.self.iter) c.verdict.new.self.room.left (n + 1) (set c.loop-n.rows k c.judged.result)) (sym steps.1) more);
+          subst (λ (k : ℕ). Written w old (left_of g.C.Catalogue c.next.new.self.iter) c.verdict.new.self.room k (set c.loop-n.rows c.in-Some.n c.judged.result)) (sym steps.2)
+          (subst (λ (k : ℕ). Written w old (left_of g.C.Catalogue c.next.new.self.iter) c.verdict.new.self.room (n + 1) (set c.loop-n.rows k c.judged.result)) (sym steps.1) more);
       units = c.verdict.ensures.units ∙ same;
     }

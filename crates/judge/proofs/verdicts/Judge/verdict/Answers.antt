@@ -7,4 +7,4 @@ use Rattle.judge.proofs.verdicts.Judge.verdict.Goals as goal
 pub returns-in-Err-clause-room : goal.returns-in-Err-clause-room
 returns-in-Err-clause-room g c =
     let judge = c.args.self.now in
-    sym (left_kept (walk_of_units g.C.Catalogue judge.units) judge.room.left (unit_of c.args.unit) c.in-Err.verdict (sym c.check.ensures.answer ∙ c.in-Err.is))
+    sym (left_kept (walk_of_units g.C.Catalogue judge.units) judge.room (unit_of c.args.unit) c.in-Err.verdict (sym c.check.ensures.answer ∙ c.in-Err.is))
