@@ -36,7 +36,8 @@ impl<'a, C: Catalogue> Cursor<'a, C> {
         direction: Direction,
         element: &'a [u8],
     ) -> Result<Cursor<'a, C>, ReaderFault>
-        ensures answer { walk.opened C.meaning result ≡ walk.opening (C.meaning catalogue.now) direction options element.now }
+        ensures answer { walk.opened C.meaning result ≡
+            walk.opening (C.meaning catalogue.now) direction options element.now }
     {
         let _configuration = frame(element)?;
         Ok(Cursor::behind_header(catalogue, direction, element))
@@ -46,7 +47,8 @@ impl<'a, C: Catalogue> Cursor<'a, C> {
     /// past that end, and the cursor stays.
     pub fn next_unit(&mut self) -> Result<Option<PlacedUnit<'a>>, ReaderFault>
         ensures answer { walk.seen result ≡ walk.unit_before (walk.walk_of C.meaning self.old) }
-        ensures state { walk.walk_of C.meaning self.new ≡ walk.one_on (walk.walk_of C.meaning self.old) }
+        ensures state { walk.walk_of C.meaning self.new ≡
+            walk.one_on (walk.walk_of C.meaning self.old) }
     {
         let found = self.unit()?;
         if let Some(unit) = found {
@@ -74,7 +76,8 @@ impl<'a, C: Catalogue> Cursor<'a, C> {
         direction: Direction,
         element: &'a [u8],
     ) -> Cursor<'a, C>
-        ensures answer { walk.walk_of C.meaning result ≡ walk.from_header (C.meaning catalogue.now) direction options element.now }
+        ensures answer { walk.walk_of C.meaning result ≡
+            walk.from_header (C.meaning catalogue.now) direction options element.now }
     {
         Cursor {
             catalogue,

@@ -60,9 +60,11 @@ pub fn read<'a, C: Catalogue>(
     direction: Direction,
     element: &'a [u8],
 ) -> Result<Whole<'a, C>, ReaderFault>
-    ensures answer { laws.found C.Catalogue result
-        ≡ laws.summary (C.meaning catalogue.now) direction options element.now (reading.reads (C.meaning catalogue.now) direction options element.now) }
-    ensures units { IfOk result (λ w. HandsOut (C.meaning catalogue.now) direction options element.now w.configuration (walk_of_units C.Catalogue w.units)) }
+    ensures answer { laws.found C.Catalogue result ≡
+        laws.summary (C.meaning catalogue.now) direction options element.now
+        (reading.reads (C.meaning catalogue.now) direction options element.now) }
+    ensures units { IfOk result (λ w. HandsOut (C.meaning catalogue.now) direction options
+        element.now w.configuration (walk_of_units C.Catalogue w.units)) }
     ensures law { laws.ReadingLaw (C.meaning catalogue.now) direction options element.now }
 {
     let configuration = frame(element)?;

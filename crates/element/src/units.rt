@@ -30,7 +30,8 @@ impl<'a, C: Catalogue> Units<'a, C> {
 
     /// What the catalogue by which the units are cut answers for an identifier, in the element's direction.
     pub fn answer(&self, identifier: u16) -> Answer
-        ensures answer { result ≡ C.meaning self.now.cursor.catalogue.now self.now.cursor.direction identifier }
+        ensures answer { result ≡
+            C.meaning self.now.cursor.catalogue.now self.now.cursor.direction identifier }
     {
         self.cursor.answer(identifier)
     }

@@ -80,8 +80,10 @@ pub fn judge<C: Catalogue>(
     element: &[u8],
     rows: &mut [JudgedUnit],
 ) -> Result<usize, JudgeFault>
-    ensures answer { result ≡ judging.answer (C.meaning catalogue.now) direction options element.now rows.old }
-    ensures rows { rows.new ≡ judging.rows_after (C.meaning catalogue.now) direction options element.now rows.old }
+    ensures answer { result ≡
+        judging.answer (C.meaning catalogue.now) direction options element.now rows.old }
+    ensures rows { rows.new ≡
+        judging.rows_after (C.meaning catalogue.now) direction options element.now rows.old }
     ensures law { laws.JudgingLaw (C.meaning catalogue.now) direction options element.now rows.old }
     ensures cases { cases.WorkedCases }
 {
@@ -110,7 +112,9 @@ fn write_rows<C: Catalogue>(units: Units<'_, C>, rows: &mut [JudgedUnit])
 
 // The row of a unit with its verdict.
 fn judged(unit: PlacedUnit<'_>, verdict: Verdict) -> JudgedUnit
-    ensures answer { result ≡ judging.judged_unit unit.entry.place unit.entry.identifier unit.entry.start (length unit.entry.contents.now) verdict }
+    ensures answer { result ≡
+        judging.judged_unit unit.entry.place unit.entry.identifier unit.entry.start
+        (length unit.entry.contents.now) verdict }
 {
     JudgedUnit {
         place: unit.place,

@@ -59,7 +59,8 @@ pub(crate) struct Judge<'a, C: Catalogue> {
 impl<'a, C: Catalogue> Judge<'a, C> {
     // Nothing is judged yet, so every slot takes as many values as it holds.
     pub(crate) fn new(units: Units<'a, C>) -> Judge<'a, C>
-        ensures units { walk_of_units C.Catalogue result.units ≡ walk_of_units C.Catalogue units.entry }
+        ensures units { walk_of_units C.Catalogue result.units ≡
+            walk_of_units C.Catalogue units.entry }
         ensures room { result.room ≡ rooms.all_free }
     {
         Judge {
@@ -70,9 +71,14 @@ impl<'a, C: Catalogue> Judge<'a, C> {
 
     // The verdict of a unit; if it is accepted, its slot has room for one less.
     pub(crate) fn verdict(&mut self, unit: PlacedUnit<'_>) -> Verdict
-        ensures answer { result ≡ rooms.verdict_on (walk_of_units C.Catalogue self.old.units) self.old.room (unit_of unit.entry) }
-        ensures room { self.new.room ≡ rooms.left_on (walk_of_units C.Catalogue self.old.units) self.old.room (unit_of unit.entry) }
-        ensures units { walk_of_units C.Catalogue self.new.units ≡ walk_of_units C.Catalogue self.old.units }
+        ensures answer { result ≡
+            rooms.verdict_on (walk_of_units C.Catalogue self.old.units) self.old.room
+            (unit_of unit.entry) }
+        ensures room { self.new.room ≡
+            rooms.left_on (walk_of_units C.Catalogue self.old.units) self.old.room
+            (unit_of unit.entry) }
+        ensures units { walk_of_units C.Catalogue self.new.units ≡
+            walk_of_units C.Catalogue self.old.units }
     {
         match self.check(unit) {
             Ok(slot) => {
@@ -85,7 +91,9 @@ impl<'a, C: Catalogue> Judge<'a, C> {
 
     // All checks, in their order: the slot of a unit that passes, or the verdict that the first to fail gives.
     fn check(&self, unit: PlacedUnit<'_>) -> Result<u8, Verdict>
-        ensures answer { result ≡ steps.slot_or_verdict (walk_of_units C.Catalogue self.now.units) self.now.room (unit_of unit.entry) }
+        ensures answer { result ≡
+            steps.slot_or_verdict (walk_of_units C.Catalogue self.now.units) self.now.room
+            (unit_of unit.entry) }
     {
         let row = self.row(unit)?;
         if !self.has_companion(row.companions) {
@@ -99,14 +107,17 @@ impl<'a, C: Catalogue> Judge<'a, C> {
 
     // Checks 1 to 3 on a unit.
     fn row(&self, unit: PlacedUnit<'_>) -> Result<Row, Verdict>
-        ensures answer { result ≡ steps.row_on (walk_of_units C.Catalogue self.now.units) (unit_of unit.entry) }
+        ensures answer { result ≡
+            steps.row_on (walk_of_units C.Catalogue self.now.units) (unit_of unit.entry) }
     {
         passing_row(self.units.answer(unit.identifier).entry, unit.contents)
     }
 
     // Check 4: one of the companions, if there are any, stands in the element and passes checks 1 to 3.
     fn has_companion(&self, companions: Companions) -> bool
-        ensures answer { result ≡ verdicts.companion_stands (rooms.passes_on (walk_of_units C.Catalogue self.now.units)) companions }
+        ensures answer { result ≡
+            verdicts.companion_stands (rooms.passes_on (walk_of_units C.Catalogue self.now.units))
+            companions }
     {
         match companions {
             Companions::None => true,
@@ -117,14 +128,17 @@ impl<'a, C: Catalogue> Judge<'a, C> {
 
     // Whether a unit has the identifier and passes checks 1 to 3.
     fn passes_as(&self, unit: PlacedUnit<'_>, identifier: u16) -> bool
-        ensures answer { result ≡ rooms.passes_as_on (walk_of_units C.Catalogue self.now.units) (unit_of unit.entry) identifier }
+        ensures answer { result ≡
+            rooms.passes_as_on (walk_of_units C.Catalogue self.now.units) (unit_of unit.entry)
+            identifier }
     {
         unit.identifier == identifier && self.row(unit).is_ok()
     }
 
     // Whether there is such a unit in the element.
     fn has(&self, identifier: u16) -> bool
-        ensures answer { result ≡ rooms.passes_on (walk_of_units C.Catalogue self.now.units) identifier }
+        ensures answer { result ≡
+            rooms.passes_on (walk_of_units C.Catalogue self.now.units) identifier }
     {
         let mut units = self.units;
         units.any(|unit| self.passes_as(unit, identifier))
