@@ -125,9 +125,13 @@ fn walks(rt: HostRuntime) -> Result<(), Fail> {
     assert_eq!(rt; wide.next_unit(), Err(ReaderFault::RunsPast(3)));
     // the units of the whole element are the same
     let mut units = read(&Edition::Long, Direction::ToModem, &element)?.units;
+    let mut again = units.clone()?;
     assert_eq!(rt; units.next(), Some(dns));
+    assert_eq!(rt; units.len(), 1);
     assert_eq!(rt; units.next(), Some(flag));
     assert_eq!(rt; units.next(), None);
+    assert_eq!(rt; again.len(), 2);
+    assert_eq!(rt; again.next(), Some(dns));
     Ok(())
 }
 
