@@ -1,6 +1,7 @@
 -- A walk over the units of an element: what stands at a place, and the place after it.
 use Rattle.std.specs.Prelude.{◌≡◌, ℕ, ◌+◌, ◌≤◌, List, [], ◌∷◌, ◌++◌, length, drop, Some, None, Ok, Err, Option, Result}
 use Rattle.catalogue.specs.declared.Direction.{Direction}
+use Rattle.catalogue.specs.declared.Answer.{Answer}
 use Rattle.catalogue.specs.Meaning.{Meaning}
 use Rattle.element.specs.declared.cursor.Cursor.{Cursor}
 use Rattle.element.specs.declared.cursor.PlacedUnit.{PlacedUnit}
@@ -143,3 +144,7 @@ cut_on w = cut_from w.meaning w.direction w.position
 -- the walk at the same position, under another meaning and direction
 abbrev pub under : Meaning → Direction → Walk → Walk
 under m d w = record { meaning = m; direction = d; position = w.position }
+
+-- what the catalogue of a walk answers, in the walk's direction
+abbrev pub answer_on : Walk → ℕ → Answer
+answer_on w i = w.meaning w.direction i

@@ -21,21 +21,21 @@ pub struct PlacedUnit<'a> {
 
 /// A walk over the units of a framed element. It stands before the next unit.
 #[derive_where(Clone, Copy)]
-pub struct Cursor<'a, C> {
-    catalogue: &'a C,
+pub struct Cursor<'c, 'a, C> {
+    catalogue: &'c C,
     direction: Direction,
     octets: &'a [u8],
     place: usize,
 }
 
 // The catalogue and the direction come in with an element, here and at `read`; from there on the cursor carries them.
-impl<'a, C: Catalogue> Cursor<'a, C> {
+impl<'c, 'a, C: Catalogue> Cursor<'c, 'a, C> {
     /// Stands before the first unit of an element, or gives the fault of the element's frame.
     pub fn open(
-        catalogue: &'a C,
+        catalogue: &'c C,
         direction: Direction,
         element: &'a [u8],
-    ) -> Result<Cursor<'a, C>, ReaderFault>
+    ) -> Result<Cursor<'c, 'a, C>, ReaderFault>
         ensures answer { walk.opened C.meaning result ≡
             walk.opening (C.meaning catalogue.now) direction options element.now }
     {
@@ -58,7 +58,11 @@ impl<'a, C: Catalogue> Cursor<'a, C> {
     }
 
     /// A cursor at the same place, that reads by another catalogue and in that direction from there on.
-    pub fn under<D: Catalogue>(self, catalogue: &'a D, direction: Direction) -> Cursor<'a, D>
+    pub fn under<'d, D: Catalogue>(
+        self,
+        catalogue: &'d D,
+        direction: Direction,
+    ) -> Cursor<'d, 'a, D>
         ensures answer { walk.walk_of D.meaning result
             ≡ walk.under (D.meaning catalogue.now) direction (walk.walk_of C.meaning self.entry) }
     {
@@ -72,10 +76,10 @@ impl<'a, C: Catalogue> Cursor<'a, C> {
 
     // The cursor before the first unit of a framed element.
     pub(crate) fn behind_header(
-        catalogue: &'a C,
+        catalogue: &'c C,
         direction: Direction,
         element: &'a [u8],
-    ) -> Cursor<'a, C>
+    ) -> Cursor<'c, 'a, C>
         ensures answer { walk.walk_of C.meaning result ≡
             walk.from_header (C.meaning catalogue.now) direction options element.now }
     {
@@ -98,7 +102,7 @@ impl<'a, C: Catalogue> Cursor<'a, C> {
     pub(crate) fn count_units(self) -> Result<usize, ReaderFault>
         ensures answer { result ≡ counts.counted (walk.cut_on (walk.walk_of C.meaning self.entry)) }
     {
-        // no iterator has a count here: a cursor stays at a fault and gives it again
+        // an iterator must end, and a cursor gives its fault again and again, so this is a loop
         let mut cursor = self;
         let mut units = 0;
         while let Some(_) = cursor.next_unit()? {
@@ -117,9 +121,9 @@ impl<'a, C: Catalogue> Cursor<'a, C> {
         if place >= octets.len() {
             return Ok(None);
         }
-        let Some(head) = self.head(&octets[place..]) else {
-            return Err(ReaderFault::RunsPast(place));
-        };
+        let head = self
+            .head(&octets[place..])
+            .ok_or(ReaderFault::RunsPast(place))?;
         let start = place + head.size;
         let end = start + head.length;
         Ok(Some(PlacedUnit {

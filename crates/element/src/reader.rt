@@ -29,9 +29,9 @@ pub enum ReaderFault {
 
 /// A whole element: its configuration octet, and its units.
 #[derive_where(Clone, Copy)]
-pub struct Whole<'a, C: Catalogue> {
+pub struct Whole<'c, 'a, C: Catalogue> {
     pub configuration: u8,
-    pub units: Units<'a, C>,
+    pub units: Units<'c, 'a, C>,
 }
 
 // A fault's line in the table of refusals.
@@ -55,11 +55,11 @@ impl From<ReaderFault> for Refusal {
 }
 
 /// Reads an element from its frame to its last unit: it is whole, or the answer is the first refusal that applies.
-pub fn read<'a, C: Catalogue>(
-    catalogue: &'a C,
+pub fn read<'c, 'a, C: Catalogue>(
+    catalogue: &'c C,
     direction: Direction,
     element: &'a [u8],
-) -> Result<Whole<'a, C>, ReaderFault>
+) -> Result<Whole<'c, 'a, C>, ReaderFault>
     ensures answer { laws.found C.Catalogue result ≡
         laws.summary (C.meaning catalogue.now) direction options element.now
         (reading.reads (C.meaning catalogue.now) direction options element.now) }

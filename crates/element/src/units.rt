@@ -11,17 +11,18 @@ use std::alloc::AllocError;
 
 /// The units of a whole element from one of them on, each where it stands. Being whole, it has no unit that runs past its
 /// end, so handing out the units never fails.
-pub struct Units<'a, C: Catalogue> {
-    cursor: Cursor<'a, C>,
+pub struct Units<'c, 'a, C: Catalogue> {
+    cursor: Cursor<'c, 'a, C>,
     left: usize,
     ghost whole: { count_of (cut_on (walk_of C.meaning cursor)) ≡ Some left } by { Prim.hlevel props },
 }
 
-impl<'a, C: Catalogue> Units<'a, C> {
-    ghost use Rattle.element.specs.Handed.{walks, starting};
+impl<'c, 'a, C: Catalogue> Units<'c, 'a, C> {
+    ghost use Rattle.element.specs.Walk.{answer_on};
+    ghost use Rattle.element.specs.Handed.{walk_of_units, walks, starting};
 
     // The units from a cursor on, or the fault of the one that runs past the end.
-    pub(crate) fn new(cursor: Cursor<'a, C>) -> Result<Units<'a, C>, ReaderFault>
+    pub(crate) fn new(cursor: Cursor<'c, 'a, C>) -> Result<Units<'c, 'a, C>, ReaderFault>
         ensures answer { walks C.Catalogue result ≡ starting (walk_of C.meaning cursor.entry) }
     {
         let left = cursor.count_units()?;
@@ -30,29 +31,28 @@ impl<'a, C: Catalogue> Units<'a, C> {
 
     /// What the catalogue by which the units are cut answers for an identifier, in the element's direction.
     pub fn answer(&self, identifier: u16) -> Answer
-        ensures answer { result ≡
-            C.meaning self.now.cursor.catalogue.now self.now.cursor.direction identifier }
+        ensures answer { result ≡ answer_on (walk_of_units C.Catalogue self.now) identifier }
     {
         self.cursor.answer(identifier)
     }
 }
 
-// By hand, as a derive is refused on a struct with a ghost field (`derive-over-ghost-field`).
-impl<'a, C: Catalogue> Clone for Units<'a, C> {
+// By hand, as a derive is refused on a struct with a ghost field and a type parameter (`derive-over-ghost-field`).
+impl<'c, 'a, C: Catalogue> Clone for Units<'c, 'a, C> {
     ghost use Rattle.std.specs.Prelude.{⊤};
 
     ghost is_clone = { λ s r. r ≡ s };
 
     ghost is_infallible = { λ _. ⊤ };
 
-    fn clone(&self) -> Result<Units<'a, C>, AllocError> {
+    fn clone(&self) -> Result<Units<'c, 'a, C>, AllocError> {
         Ok(*self)
     }
 }
 
-impl<'a, C: Catalogue> Copy for Units<'a, C> {}
+impl<'c, 'a, C: Catalogue> Copy for Units<'c, 'a, C> {}
 
-impl<'a, C: Catalogue> Iterator for Units<'a, C> {
+impl<'c, 'a, C: Catalogue> Iterator for Units<'c, 'a, C> {
     ghost use Rattle.std.specs.Iterator.{YieldsFirstBy, item_count};
     ghost use Rattle.element.specs.Walk.{placed_unit};
     ghost use Rattle.element.specs.Handed.{left_of};
@@ -71,9 +71,13 @@ impl<'a, C: Catalogue> Iterator for Units<'a, C> {
         self.left -= 1;
         Some(unit)
     }
+
+    fn size_hint(&self) -> (usize, Option<usize>) {
+        (self.left, Some(self.left))
+    }
 }
 
-impl<'a, C: Catalogue> ExactSizeIterator for Units<'a, C> {
+impl<'c, 'a, C: Catalogue> ExactSizeIterator for Units<'c, 'a, C> {
     fn len(&self) -> usize {
         self.left
     }
