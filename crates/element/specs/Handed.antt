@@ -1,11 +1,14 @@
 -- The units of a whole element: the walk over them, and what it has still to hand out.
-use Rattle.std.specs.Prelude.{ℕ, List, Ok, Err, Result}
+use Rattle.std.specs.Prelude.{ℕ, List, length, Ok, Err, Result}
+use Rattle.catalogue.specs.declared.Direction.{Direction}
 use Rattle.catalogue.specs.declared.Catalogue.{Ghosts}
+use Rattle.catalogue.specs.Meaning.{Meaning}
 use Rattle.element.specs.declared.reader.ReaderFault.{ReaderFault}
 use Rattle.element.specs.declared.units.Units.{Units}
-use Rattle.element.specs.Walk.{Placed, Walk, walk_of, cut_on}
+use Rattle.element.specs.Walk.{Placed, Walk, walk_of, from_header}
 use Rattle.element.specs.Left.{units_left}
-use Rattle.element.specs.Counts.{counted}
+use Rattle.element.specs.Outer.{Outer}
+use Rattle.element.specs.Reading.{Reading, whole, declined}
 
 -- a walk over whole units, and how many they are
 pub record WholeWalk : Type 0 where
@@ -27,10 +30,7 @@ abbrev pub walks : {C : Type 0} (catalogue : Ghosts C) → Result (Units C catal
 walks catalogue (Ok us) = Ok (whole_walk catalogue us)
 walks catalogue (Err f) = Err f
 
-abbrev pub starting_by : Walk → Result ℕ ReaderFault → Result WholeWalk ReaderFault
-starting_by w (Ok n) = Ok (record { walk = w; count = n })
-starting_by w (Err f) = Err f
-
--- the walk, if its units are whole up to the end
-abbrev pub starting : Walk → Result WholeWalk ReaderFault
-starting w = starting_by w (counted (cut_on w))
+-- what is handed out of an element: as many units as it has, from the header on, or the fault
+abbrev pub handing_out : Meaning → Direction → Outer → List ℕ → Reading → Result WholeWalk ReaderFault
+handing_out m d outer e (whole o us) = Ok (record { walk = from_header m d outer e; count = length us })
+handing_out m d outer e (declined f) = Err f

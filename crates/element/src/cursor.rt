@@ -40,7 +40,12 @@ impl<'c, 'a, C: Catalogue> Cursor<'c, 'a, C> {
             walk.opening (C.meaning catalogue.now) direction options element.now }
     {
         let _configuration = frame(element)?;
-        Ok(Cursor::behind_header(catalogue, direction, element))
+        Ok(Cursor {
+            catalogue,
+            direction,
+            octets: element,
+            place: HEADER,
+        })
     }
 
     /// The next unit, and the cursor goes behind it; or none at the end of the element, or the fault of a unit that runs
@@ -71,23 +76,6 @@ impl<'c, 'a, C: Catalogue> Cursor<'c, 'a, C> {
             direction,
             octets: self.octets,
             place: self.place,
-        }
-    }
-
-    // The cursor before the first unit of a framed element.
-    pub(crate) fn behind_header(
-        catalogue: &'c C,
-        direction: Direction,
-        element: &'a [u8],
-    ) -> Cursor<'c, 'a, C>
-        ensures answer { walk.walk_of C.meaning result ≡
-            walk.from_header (C.meaning catalogue.now) direction options element.now }
-    {
-        Cursor {
-            catalogue,
-            direction,
-            octets: element,
-            place: HEADER,
         }
     }
 

@@ -1,13 +1,10 @@
 // The reader: an element's frame, and its units one after the other.
-ghost use Rattle.std.specs.Prelude.{◌≡◌, IfOk};
-ghost use Rattle.element.specs.Handed.{walk_of_units};
+ghost use Rattle.std.specs.Prelude.{◌≡◌};
 ghost use Rattle.element.specs.Laws as laws;
-ghost use Rattle.element.specs.Left.{HandsOut};
 ghost use Rattle.element.specs.Outer.{options};
 ghost use Rattle.element.specs.Reading as reading;
 ghost use Rattle.element.specs.Refusals as refusals;
 
-use crate::cursor::Cursor;
 use crate::outer::{CONFIGURATION_PLACE, FIRST_OCTET, GREATEST, LEAST, LENGTH_PLACE, UNCOUNTED};
 use crate::units::Units;
 use catalogue::{Catalogue, Direction, Layer, Refusal};
@@ -27,14 +24,13 @@ pub enum ReaderFault {
     RunsPast(usize),
 }
 
-/// A whole element: its configuration octet, and its units.
-#[derive_where(Clone, Copy)]
-pub struct Whole<'c, 'a, C: Catalogue> {
+/// A whole element in short: its configuration octet and how many units it has.
+#[derive(Clone, Copy, PartialEq, Debug)]
+pub struct Whole {
     pub configuration: u8,
-    pub units: Units<'c, 'a, C>,
+    pub units: usize,
 }
 
-// A fault's line in the table of refusals.
 impl From<ReaderFault> for Refusal {
     ghost from_gives = { λ f r. r ≡ refusals.refusal_of f };
 
@@ -55,21 +51,17 @@ impl From<ReaderFault> for Refusal {
 }
 
 /// Reads an element from its frame to its last unit: it is whole, or the answer is the first refusal that applies.
-pub fn read<'c, 'a, C: Catalogue>(
-    catalogue: &'c C,
+pub fn read<C: Catalogue>(
+    catalogue: &C,
     direction: Direction,
-    element: &'a [u8],
-) -> Result<Whole<'c, 'a, C>, ReaderFault>
-    ensures answer { laws.found C.Catalogue result ≡
-        laws.summary (C.meaning catalogue.now) direction options element.now
-        (reading.reads (C.meaning catalogue.now) direction options element.now) }
-    ensures units { IfOk result (λ w. HandsOut (C.meaning catalogue.now) direction options
-        element.now w.configuration (walk_of_units C.Catalogue w.units)) }
+    element: &[u8],
+) -> Result<Whole, ReaderFault>
+    ensures answer { result ≡
+        laws.summary (reading.reads (C.meaning catalogue.now) direction options element.now) }
     ensures law { laws.ReadingLaw (C.meaning catalogue.now) direction options element.now }
 {
     let configuration = frame(element)?;
-    let cursor = Cursor::behind_header(catalogue, direction, element);
-    let units = Units::new(cursor)?;
+    let units = Units::of(catalogue, direction, element)?.len();
     Ok(Whole {
         configuration,
         units,

@@ -6,7 +6,7 @@ ghost use Rattle.element.specs.Left.{count_of};
 
 use crate::cursor::{Cursor, PlacedUnit};
 use crate::reader::ReaderFault;
-use catalogue::{Answer, Catalogue};
+use catalogue::{Answer, Catalogue, Direction};
 use std::alloc::AllocError;
 
 /// The units of a whole element from one of them on, each where it stands. Being whole, it has no unit that runs past its
@@ -18,13 +18,28 @@ pub struct Units<'c, 'a, C: Catalogue> {
 }
 
 impl<'c, 'a, C: Catalogue> Units<'c, 'a, C> {
+    ghost use Rattle.std.specs.Prelude.{IfOk};
+    ghost use Rattle.element.specs.Outer.{options};
+    ghost use Rattle.element.specs.Reading.{reads};
     ghost use Rattle.element.specs.Walk.{answer_on};
-    ghost use Rattle.element.specs.Handed.{walk_of_units, walks, starting};
+    ghost use Rattle.element.specs.Left.{HandsOut};
+    ghost use Rattle.element.specs.Handed.{walk_of_units, walks, handing_out};
+    ghost use Rattle.element.specs.Laws.{ReadingLaw};
 
-    // The units from a cursor on, or the fault of the one that runs past the end.
-    pub(crate) fn new(cursor: Cursor<'c, 'a, C>) -> Result<Units<'c, 'a, C>, ReaderFault>
-        ensures answer { walks C.Catalogue result ≡ starting (walk_of C.meaning cursor.entry) }
+    /// The units of an element, if it is whole; or the first refusal that applies.
+    pub fn of(
+        catalogue: &'c C,
+        direction: Direction,
+        element: &'a [u8],
+    ) -> Result<Units<'c, 'a, C>, ReaderFault>
+        ensures answer { walks C.Catalogue result ≡
+            handing_out (C.meaning catalogue.now) direction options element.now
+            (reads (C.meaning catalogue.now) direction options element.now) }
+        ensures units { IfOk result (λ us. HandsOut (C.meaning catalogue.now) direction options
+            element.now (walk_of_units C.Catalogue us)) }
+        ensures law { ReadingLaw (C.meaning catalogue.now) direction options element.now }
     {
+        let cursor = Cursor::open(catalogue, direction, element)?;
         let left = cursor.count_units()?;
         Ok(Units { cursor, left })
     }
