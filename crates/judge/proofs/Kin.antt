@@ -99,14 +99,14 @@ module _ (m : Meaning) (d : Direction) (outer : Outer) where
       record {
         went = λ k b. inr (k, (omega (arith, within e p k b, length-append xs (unit i a ∷ ys)), refl));
         came = λ l c. inr (l, (omega (arith, within f q l c, length-append xs (unit i b ∷ ys)), refl));
-        same_unit = λ k l s. elim (nth_other xs (unit i a) (unit i b) ys k) [ inl z ↦ inl z | inr z ↦ inr (both_units e f p q k l (z ∙ ap (λ (j : ℕ). nth (xs ++ unit i b ∷ ys) j) s.1)) ];
+        same_unit = λ k l s. elim (nth_other xs (unit i a) (unit i b) ys k) [ inl z ↦ inl z | inr z ↦ inr (both_units e f p q k l (rw (← s.1) z)) ];
         same_length = λ k z. let old = nth_at xs (unit i a) ys in let new = nth_at xs (unit i b) ys in let from = units_are e p in let to = units_are f q in (i, a, b, cc, cc, n);
       }
   whereabouts {e} {f} (alter o p us r q) =
       record {
         went = λ k b. inr (k, (within e r k b, refl));
         came = λ l b. inr (l, (within f q l b, refl));
-        same_unit = λ k l s. inr (both_units e f r q k l (ap (λ (j : ℕ). nth us j) s.1));
+        same_unit = λ k l s. inr (both_units e f r q k l (ap (nth us) s.1));
         same_length = λ k z. absurd z;
       }
 
@@ -132,8 +132,8 @@ module _ (m : Meaning) (d : Direction) (outer : Outer) where
     same_verdict {e} {f} (insert o xs u ys p q h) k l s = agreed e f p q k l (grind (arith, length-append xs ys)) (at_both m law d xs u ys h k l s)
     same_verdict {e} {f} (overwrite o xs i a b ys p q n h) k l s =
         agreed e f p q k l (omega (arith, s.0, length-append xs (unit i a ∷ ys)))
-        (ap₂ (λ (vs : List Verdict) (j : ℕ). nth vs j) (over m d xs i a b ys n h) s.1)
-    same_verdict {e} {f} (alter o p us r q) k l s = agreed e f r q k l s.0 (ap (λ (j : ℕ). nth (verdicts m d us) j) s.1)
+        (ap₂ nth (over m d xs i a b ys n h) s.1)
+    same_verdict {e} {f} (alter o p us r q) k l s = agreed e f r q k l s.0 (ap (nth (verdicts m d us)) s.1)
 
     changed : {e f : List ℕ} → Change m d outer e f → slot_values m d (units_in m d outer e) ≡ slot_values m d (units_in m d outer f)
     changed {e} {f} (remove o xs u ys p q h) = reading e f p q (accepted_without m law d xs u ys h)

@@ -8,7 +8,7 @@ use Rattle.judge.specs.Verdicts.{TurnedAside, choose, chosen, passes, verdict, f
 module _ (m : Meaning) (d : Direction) (meets : ℕ → Bool) where
   pub from-++ : (filled : List ℕ) (xs ys : List ElementUnit) → verdicts_from m d meets filled (xs ++ ys) ≡ verdicts_from m d meets filled xs ++ verdicts_from m d meets (filled_by m d meets filled xs) ys
   from-++ filled [] ys = refl
-  from-++ filled (x ∷ xs) ys = ap (λ vs. verdict m d meets filled x ∷ vs) (from-++ (filled_after m d meets filled x) xs ys)
+  from-++ filled (x ∷ xs) ys = simp (from-++ (filled_after m d meets filled x) xs ys)
 
   pub from_length : (filled : List ℕ) (xs : List ElementUnit) → length (verdicts_from m d meets filled xs) ≡ length xs
   from_length filled [] = refl

@@ -58,7 +58,7 @@ module _ (w : Walk) where
           agrees = rw free agrees_none;
           so_many = sym zero;
           in_all = omega (arith, ap length all, zero);
-          rows_are = ap (λ (k : ℕ). drop k old) (sym zero);
+          rows_are = rw zero;
           in_order = ap (rows_placed []) all ∙ rows_placed-from [] w.position.place (units_on w);
         }
 
@@ -73,10 +73,10 @@ module _ (w : Walk) where
               filled = after f u;
               done = so.done ++ r ∷ [];
               agrees = rw e (agrees_after w.meaning w.direction meets left f so.agrees x);
-              so_many = length_push so.done r ∙ ap (λ (k : ℕ). k + 1) so.so_many;
+              so_many = omega (arith, length_push so.done r, so.so_many);
               in_all = omega (arith, so.in_all, ap length one);
               rows_are = set_next so.done old rows n r so.so_many so.rows_are (omega (arith, h, so.in_all, ap length one));
-              in_order = simp (append_assoc, row) (ap (λ (l : List Placed). so.done ++ rows_placed f l) (sym one) ∙ so.in_order);
+              in_order = simp (append_assoc, row) (rw one at so.in_order);
             }
 
       pub written_all : ps ≡ [] → rows ≡ rows_on w ++ drop (length (units_left w)) old
