@@ -1,5 +1,5 @@
 -- The search for a companion, unit by unit.
-use Rattle.std.proofs.Common.{◌≡◌, ℕ, ◌+◌, Bool, ◌||◌, List, [], ◌∷◌, refl, ap}
+use Rattle.std.proofs.Common.{◌≡◌, ℕ, ◌+◌, List, [], ◌∷◌, refl}
 use Rattle.std.specs.List.{list_any}
 use Rattle.catalogue.specs.declared.Direction.{Direction}
 use Rattle.catalogue.specs.Meaning.{Meaning}
@@ -15,7 +15,7 @@ bare p = unit p.identifier p.contents
 
 list_any-placed_from : (m : Meaning) (d : Direction) (i p : ℕ) (us : List ElementUnit) → list_any (λ (x : Placed). passes_as m d (bare x) i) (placed_from m d p us) ≡ passes m d us i
 list_any-placed_from m d i p [] = refl
-list_any-placed_from m d i p (u ∷ us) = ap (λ (b : Bool). passes_as m d u i || b) (list_any-placed_from m d i (p + size m d u) us)
+list_any-placed_from m d i p (u ∷ us) = simp (list_any-placed_from m d i (p + size m d u) us)
 
 -- a unit that passes as i is among those that are handed out, if it is among the walk's
 pub list_any-placed : (w : Walk) (i : ℕ) → list_any (λ (x : Placed). passes_as_on w (bare x) i) (units_left w) ≡ passes_on w i

@@ -1,5 +1,5 @@
 -- How many units an element has at the most.
-use Rattle.std.proofs.Common.{◌≡◌, ℕ, ◌+◌, ◌*◌, ◌≤◌, List, [], ◌∷◌, length, refl, inl, inr, arith}
+use Rattle.std.proofs.Common.{◌≡◌, ℕ, ◌+◌, ◌*◌, ◌≤◌, List, [], ◌∷◌, length, refl, arith}
 use Rattle.catalogue.specs.declared.Direction.{Direction}
 use Rattle.catalogue.specs.Meaning.{Meaning}
 use Rattle.catalogue.specs.Laws.{Lawful}
@@ -12,13 +12,10 @@ use Rattle.element.proofs.Places.{places}
 use Rattle.judge.specs.Judging.{most_units}
 
 module _ (m : Meaning) (law : Lawful m) (d : Direction) where
-  three : (u : ElementUnit) → 3 ≤ size m d u
-  three u = elim (law.width d u.identifier) [ inl q ↦ omega (arith, q) | inr q ↦ omega (arith, q) ]
-
   -- units that stand from the place p on take three octets each, or more
   take_three : (p : ℕ) (us : List ElementUnit) → p + 3 * length us ≤ place_from m d p us
   take_three p [] = omega arith
-  take_three p (u ∷ us) = omega (arith, three u, take_three (p + size m d u) us)
+  take_three p (u ∷ us) = grind (arith, law.width d u.identifier, take_three (p + size m d u) us)
 
   module _ (outer : Outer) (lawful : LawfulOuter outer) (e : List ℕ) (octets : Octets e) where
     few_by : (r : Reading) → reads m d outer e ≡ r → length (units_of r) ≤ most_units outer

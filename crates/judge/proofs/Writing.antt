@@ -1,7 +1,8 @@
 -- Rows written one after the other are the rows of the element's units.
-use Rattle.std.proofs.Common.{◌≡◌, ℕ, ◌+◌, ◌<◌, ◌≤◌, Bool, List, [], ◌∷◌, ◌++◌, length, get_or, drop, set, sym, refl, ap, ◌∙◌, subst, ap₂, append_assoc, append-nil, arith}
-use Rattle.std.proofs.lemmas.List.{length_push, length-append, length-drop, drop_more, set_at}
-use Rattle.element.specs.Units.{ElementUnit, width, size}
+use Rattle.std.proofs.Common.{◌≡◌, ℕ, ◌+◌, ◌<◌, ◌≤◌, Bool, List, [], ◌∷◌, ◌++◌, length, get_or, drop, set, sym, refl, ap, ◌∙◌, append_assoc, arith}
+use Rattle.std.proofs.lemmas.List.{length_push, drop_more, set_at}
+use Rattle.std.proofs.lemmas.Grind.{common_steps}
+use Rattle.element.specs.Units.{ElementUnit, size}
 use Rattle.element.specs.Walk.{Placed, Walk, placed_from}
 use Rattle.element.specs.Left.{units_on, units_left}
 use Rattle.judge.specs.declared.judging.JudgedUnit.{JudgedUnit}
@@ -15,9 +16,7 @@ use Rattle.judge.proofs.Finding.{bare}
 -- the place n of the rows old, behind the rows done, gets the row r
 set_next : (done old rows : List JudgedUnit) (n : ℕ) (r : JudgedUnit) → length done ≡ n → rows ≡ done ++ drop n old → n < length old → set rows n r ≡ (done ++ r ∷ []) ++ drop (n + 1) old
 set_next done old rows n r long was h =
-    ap (λ (l : List JudgedUnit). set l n r) (was ∙ ap (λ (l : List JudgedUnit). done ++ l) (drop_more old n r h))
-    ∙ set_at done (get_or old n r) (drop (n + 1) old) r n long
-    ∙ sym (append_assoc done (r ∷ []) (drop (n + 1) old))
+    simp (was, drop_more old n r h, set_at done (get_or old n r) (drop (n + 1) old) r n long, append_assoc)
 
 -- the row of a unit where it stands
 abbrev pub row_at : Placed → Verdict → JudgedUnit
@@ -38,8 +37,7 @@ module _ (w : Walk) where
   rows_placed-from : (filled : List ℕ) (p : ℕ) (us : List ElementUnit) → rows_placed filled (placed_from w.meaning w.direction p us) ≡ rows_from w.meaning w.direction p (verdicts_from w.meaning w.direction meets filled us) us
   rows_placed-from filled p [] = refl
   rows_placed-from filled p (u ∷ us) =
-      ap (λ (rs : List JudgedUnit). judged_unit p u.identifier (p + 2 + width w.meaning w.direction u) (length u.contents) (verdict w.meaning w.direction meets filled u) ∷ rs)
-      (rows_placed-from (filled_after w.meaning w.direction meets filled u) (p + size w.meaning w.direction u) us)
+      simp (rows_placed-from (filled_after w.meaning w.direction meets filled u) (p + size w.meaning w.direction u) us)
 
   module _ (old : List JudgedUnit) where
     -- n rows are written, the units ps are to come, and so much is left in the slots
@@ -57,45 +55,29 @@ module _ (w : Walk) where
         record {
           filled = [];
           done = [];
-          agrees = subst (λ (l : List ℕ). Agrees l []) (sym free) agrees_none;
+          agrees = rw free agrees_none;
           so_many = sym zero;
           in_all = omega (arith, ap length all, zero);
-          rows_are = ap (λ (k : ℕ). drop k old) (sym zero);
+          rows_are = rw zero;
           in_order = ap (rows_placed []) all ∙ rows_placed-from [] w.position.place (units_on w);
         }
 
     module _ (ps : List Placed) (left : List ℕ) (n : ℕ) (rows : List JudgedUnit) (so : Written ps left n rows) where
-      pub as_long : length (units_left w) ≤ length old → length rows ≡ length old
-      as_long h =
-          ap length so.rows_are ∙ length-append so.done (drop n old) ∙ omega (arith, h, so.so_many, so.in_all, length-drop n old)
-
       module _ (u : Placed) (qs : List Placed) (one : ps ≡ u ∷ qs) where
-        pub one_left : n < length (units_left w)
-        one_left = omega (arith, so.in_all, ap length one)
-
         pub written_more : length (units_left w) ≤ length old → (r : JudgedUnit) → r ≡ row_at u (verdict_on w left (bare u)) → (new : List ℕ) → new ≡ left_on w left (bare u) → Written qs new (n + 1) (set rows n r)
         written_more h r is new e =
             let x = bare u in
             let f = so.filled in
-            let row : r ≡ row_at u (verdict w.meaning w.direction meets f x) =
-            is ∙ ap (row_at u) (verdict_same w.meaning w.direction meets left f so.agrees x) in
+            let row : r ≡ row_at u (verdict w.meaning w.direction meets f x) = cc (verdict_same w.meaning w.direction meets left f so.agrees x) in
             record {
               filled = after f u;
               done = so.done ++ r ∷ [];
-              agrees = subst (λ (l : List ℕ). Agrees l (after f u)) (sym e) (agrees_after w.meaning w.direction meets left f so.agrees x);
-              so_many = length_push so.done r ∙ ap (λ (k : ℕ). k + 1) so.so_many;
+              agrees = rw e (agrees_after w.meaning w.direction meets left f so.agrees x);
+              so_many = omega (arith, length_push so.done r, so.so_many);
               in_all = omega (arith, so.in_all, ap length one);
-              rows_are = set_next so.done old rows n r so.so_many so.rows_are (omega (arith, h, one_left));
-              in_order =
-                  append_assoc so.done (r ∷ []) _
-                  ∙ ap (λ (k : JudgedUnit). so.done ++ k ∷ rows_placed (after f u) qs) row
-                  ∙ ap (λ (l : List Placed). so.done ++ rows_placed f l) (sym one)
-                  ∙ so.in_order;
+              rows_are = set_next so.done old rows n r so.so_many so.rows_are (omega (arith, h, so.in_all, ap length one));
+              in_order = simp (append_assoc, row) (rw one at so.in_order);
             }
 
       pub written_all : ps ≡ [] → rows ≡ rows_on w ++ drop (length (units_left w)) old
-      written_all none =
-          let end : n ≡ length (units_left w) = omega (arith, so.in_all, ap length none) in
-          let full : so.done ≡ rows_on w =
-          sym (append-nil so.done) ∙ ap (λ (l : List Placed). so.done ++ rows_placed so.filled l) (sym none) ∙ so.in_order in
-          so.rows_are ∙ ap₂ (λ (l : List JudgedUnit) (k : ℕ). l ++ drop k old) full end
+      written_all none = grind (arith, common_steps, so.so_many, so.in_all, so.rows_are, so.in_order)

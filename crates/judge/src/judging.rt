@@ -10,7 +10,7 @@ ghost use Rattle.judge.specs.declared.judging.JudgeFault.TheVariants.{Reader};
 use crate::Verdict;
 use crate::verdicts::Judge;
 use catalogue::{Catalogue, Direction, Layer, Refusal};
-use element::{PlacedUnit, ReaderFault, Units, read};
+use element::{PlacedUnit, ReaderFault, Units};
 
 /// No element has more units, so this many rows are enough.
 pub const MOST_UNITS: usize = 83;
@@ -87,7 +87,7 @@ pub fn judge<C: Catalogue>(
     ensures law { laws.JudgingLaw (C.meaning catalogue.now) direction options element.now rows.old }
     ensures cases { cases.WorkedCases }
 {
-    let units = read(catalogue, direction, element)?.units;
+    let units = Units::of(catalogue, direction, element)?;
     let needed = units.len();
     if rows.len() < needed {
         return Err(JudgeFault::TooFewRows(needed));
@@ -97,7 +97,7 @@ pub fn judge<C: Catalogue>(
 }
 
 // Writes the rows of a whole element into rows that are enough.
-fn write_rows<C: Catalogue>(units: Units<'_, C>, rows: &mut [JudgedUnit])
+fn write_rows<C: Catalogue>(units: Units<'_, '_, C>, rows: &mut [JudgedUnit])
     requires room { length (left_of C.Catalogue units) ≤ length rows.old }
     ensures rows { rows.new
         ≡ judging.rows_on (walk_of_units C.Catalogue units.entry)

@@ -66,5 +66,5 @@ fn points_to_trim(rest: &[u8]) -> bool
     ensures answer { result ≡ rules.points_to_trim rest.now }
 {
     let back = usize::from(rest[rest.len() - 1]);
-    back >= 2 && back < rest.len()
+    (2..rest.len()).contains(&back)
 }

@@ -51,14 +51,14 @@ fn passing_row(entry: Option<Row>, contents: &[u8]) -> Result<Row, Verdict>
 
 // The units of an element, judged one after the other: all of them for check 4, and for check 5 the room left in the slots.
 #[derive(Drop)]
-pub(crate) struct Judge<'a, C: Catalogue> {
-    units: Units<'a, C>,
+pub(crate) struct Judge<'c, 'a, C: Catalogue> {
+    units: Units<'c, 'a, C>,
     room: Room,
 }
 
-impl<'a, C: Catalogue> Judge<'a, C> {
+impl<'c, 'a, C: Catalogue> Judge<'c, 'a, C> {
     // Nothing is judged yet, so every slot takes as many values as it holds.
-    pub(crate) fn new(units: Units<'a, C>) -> Judge<'a, C>
+    pub(crate) fn new(units: Units<'c, 'a, C>) -> Judge<'c, 'a, C>
         ensures units { walk_of_units C.Catalogue result.units ≡
             walk_of_units C.Catalogue units.entry }
         ensures room { result.room ≡ rooms.all_free }

@@ -9,7 +9,7 @@ ghost use Rattle.listing.specs.Listing as listing;
 
 use crate::lines::{CountLine, FaultLine, UnitLine, heading};
 use catalogue::{Catalogue, Direction, Edition};
-use element::{Units, read};
+use element::Units;
 use std::alloc::{AllocError, Global};
 
 /// What the lister prints for the octets of one element, to modem and under the long edition.
@@ -19,8 +19,8 @@ pub fn list(alloc: Global, element: &[u8]) -> Result<String, AllocError>
         string_bytes s ≡ listing.listing long ToModem element.now) }
     ensures law { figures.IdentifierLaw }
 {
-    match read(&Edition::Long, Direction::ToModem, element) {
-        Ok(whole) => list_whole(alloc, whole.units, element.len()),
+    match Units::of(&Edition::Long, Direction::ToModem, element) {
+        Ok(units) => list_whole(alloc, units, element.len()),
         Err(fault) => format!(in alloc; "{}\n", FaultLine(fault.into())),
     }
 }
@@ -28,7 +28,7 @@ pub fn list(alloc: Global, element: &[u8]) -> Result<String, AllocError>
 // The listing of a whole element of so many octets.
 fn list_whole<C: Catalogue>(
     alloc: Global,
-    units: Units<'_, C>,
+    units: Units<'_, '_, C>,
     octets: usize,
 ) -> Result<String, AllocError>
     ensures answer { IfOk result (λ s.

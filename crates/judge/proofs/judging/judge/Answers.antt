@@ -3,12 +3,12 @@ use Rattle.judge.proofs.judging.judge.Goals as goal
 
 pub returns-in_err-units-clause-law : goal.returns-in_err-units-clause-law
 returns-in_err-units-clause-law g c =
-    options_law _ (g.met.C.Catalogue.lawful c.args.catalogue.now) c.args.direction c.args.element.now c.type_inv.element c.args.rows.now
+    options_law _ (g.met.C.Catalogue.lawful c.args.catalogue.now) _ _ c.type_inv.element _
 
 pub returns-then-rows-needed-clause-law : goal.returns-then-rows-needed-clause-law
 returns-then-rows-needed-clause-law g c =
-    options_law _ (g.met.C.Catalogue.lawful c.args.catalogue.now) c.args.direction c.args.element.now c.type_inv.element c.args.rows.now
+    options_law _ (g.met.C.Catalogue.lawful c.args.catalogue.now) _ _ c.type_inv.element _
 
 pub returns-clause-law : goal.returns-clause-law
 returns-clause-law g c =
-    options_law _ (g.met.C.Catalogue.lawful c.args.catalogue.now) c.args.direction c.args.element.now c.type_inv.element c.args.rows.now
+    options_law _ (g.met.C.Catalogue.lawful c.args.catalogue.now) _ _ c.type_inv.element _

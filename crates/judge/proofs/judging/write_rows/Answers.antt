@@ -1,9 +1,9 @@
-use Rattle.std.proofs.Common.{◌≡◌, ℕ, ◌+◌, set, sym, ap, ◌∙◌, subst}
+use Rattle.std.proofs.Common.{◌≡◌, ap, ◌∙◌}
 use Rattle.element.specs.Handed.{left_of, walk_of_units}
 use Rattle.element.specs.Walk.{Walk, placed_unit, unit_of}
 use Rattle.element.specs.Left.{units_left}
 use Rattle.judge.specs.Rooms.{verdict_on, left_on}
-use Rattle.judge.proofs.Writing.{Written, row_at, written_none, written_more}
+use Rattle.judge.proofs.Writing.{row_at, written_none, written_more}
 use Rattle.judge.proofs.judging.write_rows.Goals as goal
 
 pub loop-n-init : goal.loop-n-init
@@ -20,20 +20,11 @@ pub loop-n-preserved : goal.loop-n-preserved
 loop-n-preserved g c =
     let w = walk_of_units g.C.Catalogue c.args.units in
     let now = c.loop-n.judge.room in
-    let n = c.loop-n.n-iterator.count in
-    let old = c.args.rows.now in
     let unit = c.in-Some.unit in
     let u = placed_unit unit in
     let steps = c.in-Some.ensures.steps in
     let same = c.loop-n.invariant.units in
-    let row : c.judged.result ≡ row_at u (verdict_on w now (unit_of unit)) =
-    c.judged.ensures.answer ∙ ap (row_at u) (c.verdict.ensures.answer ∙ ap (λ (x : Walk). verdict_on x now (unit_of unit)) same) in
+    let row : c.judged.result ≡ row_at u (verdict_on w now (unit_of unit)) = cc (c.judged.ensures.answer, c.verdict.ensures.answer, same) in
     let room = c.verdict.ensures.room ∙ ap (λ (x : Walk). left_on x now (unit_of unit)) same in
-    let more =
-    written_more w old _ now n c.loop-n.rows c.loop-n.invariant.written u (left_of g.C.Catalogue c.next.new.self.iter) steps.0 c.requires.room c.judged.result row c.verdict.new.self.room room in
-    record {
-      written =
-          subst (λ (k : ℕ). Written w old (left_of g.C.Catalogue c.next.new.self.iter) c.verdict.new.self.room k (set c.loop-n.rows c.in-Some.n c.judged.result)) (sym steps.2)
-          (subst (λ (k : ℕ). Written w old (left_of g.C.Catalogue c.next.new.self.iter) c.verdict.new.self.room (n + 1) (set c.loop-n.rows k c.judged.result)) (sym steps.1) more);
-      units = c.verdict.ensures.units ∙ same;
-    }
+    let more = written_more w c.args.rows.now _ _ _ _ c.loop-n.invariant.written u _ steps.0 c.requires.room _ row _ room in
+    record { written = rw (steps.2, steps.1) more; units = c.verdict.ensures.units ∙ same }

@@ -9,8 +9,7 @@ use Rattle.judge.proofs.verdicts.Judge.has.Goals as goal
 
 pub returns : goal.returns
 returns g c =
-    let us = c.args.self.now.units in
-    let w = walk_of_units g.C.Catalogue us in
+    let w = walk_of_units g.C.Catalogue c.args.self.now.units in
     let i = c.args.identifier in
     record {
       answer =
