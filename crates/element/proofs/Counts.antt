@@ -11,10 +11,6 @@ abbrev pub counted_with : ℕ → Cut → Result ℕ ReaderFault
 counted_with n (cut us) = Ok (n + length us)
 counted_with n (stuck_at p) = Err (RunsPast p)
 
-pub counted_none : (c : Cut) → counted_with 0 c ≡ counted c
-counted_none (cut us) = ap (λ (n : ℕ). Ok n) (omega arith)
-counted_none (stuck_at p) = refl
-
 pub counted_more : (n : ℕ) (u : ElementUnit) (c : Cut) → counted_with (n + 1) c ≡ counted_with n (onto u c)
-counted_more n u (cut us) = ap (λ (k : ℕ). Ok k) (omega arith)
+counted_more n u (cut us) = grind arith
 counted_more n u (stuck_at p) = refl

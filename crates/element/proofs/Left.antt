@@ -13,7 +13,7 @@ use Rattle.element.proofs.Walk.{unit_of, turned_on}
 
 pub length-placed_from : (m : Meaning) (d : Direction) (p : ℕ) (us : List ElementUnit) → length (placed_from m d p us) ≡ length us
 length-placed_from m d p [] = refl
-length-placed_from m d p (u ∷ us) = ap (λ (k : ℕ). suc k) (length-placed_from m d (p + size m d u) us)
+length-placed_from m d p (u ∷ us) = omega (arith, length-placed_from m d (p + size m d u) us)
 
 length-cut_units : (c : Cut) (n : ℕ) → count_of c ≡ Some n → length (cut_units c) ≡ n
 length-cut_units (cut us) n h = cc
@@ -25,7 +25,7 @@ length-units_left w n h = length-placed_from w.meaning w.direction w.position.pl
 
 -- a unit in front of octets that were cut into whole units
 onto_whole : (u : ElementUnit) (c : Cut) (n : ℕ) → count_of (onto u c) ≡ Some n → (count_of c ≡ Some (n - 1)) × (cut_units (onto u c) ≡ u ∷ cut_units c)
-onto_whole u (cut us) n h = let q : suc (length us) ≡ n = cc in (ap (λ (k : ℕ). Some k) (omega arith), refl)
+onto_whole u (cut us) n h = grind arith
 onto_whole u (stuck_at p) n h = cc
 
 -- what a walk over n whole units, and the walk behind the first of them, say of each other
@@ -37,15 +37,15 @@ pub handed_out : (w t : Walk) → Lawful w.meaning → (n : ℕ) (r : Result (Op
 handed_out w t law n r u counted answer state is =
     let m = w.meaning in
     let d = w.direction in
-    let more = turned_on w t law r u answer state is in
-    let one = unit_of (placed_unit u) in
-    let whole = onto_whole one (cut_on t) n (ap count_of (sym more.cuts) ∙ counted) in
-    let onward : placed_from m d t.position.place (cut_units (cut_on t)) ≡ units_left t = ap (λ (x : Walk). placed_from x.meaning x.direction t.position.place (cut_units (cut_on t))) (sym state) in
-    record {
+    let p = w.position.place in
+    let more = turned_on w (one_on w) law r u answer refl is in
+    let us = cut_units (cut_on (one_on w)) in
+    let whole = onto_whole (unit_of (placed_unit u)) (cut_on (one_on w)) n (ap count_of (sym more.cuts) ∙ counted) in
+    rw state
+    (record {
       count = whole.0;
       first =
-          ap (λ (c : Cut). placed_from m d w.position.place (cut_units c)) more.cuts
-          ∙ ap (placed_from m d w.position.place) whole.1
-          ∙ ap₂ (λ (p : Placed) (k : ℕ). p ∷ placed_from m d k (cut_units (cut_on t))) (sym more.here) (sym more.behind)
-          ∙ ap (λ (ps : List Placed). placed_unit u ∷ ps) onward;
-    }
+          ap (λ (c : Cut). placed_from m d p (cut_units c)) more.cuts
+          ∙ ap (placed_from m d p) whole.1
+          ∙ ap₂ (λ (x : Placed) (k : ℕ). x ∷ placed_from m d k us) (sym more.here) (sym more.behind);
+    })

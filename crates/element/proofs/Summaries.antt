@@ -12,29 +12,18 @@ use Rattle.element.specs.Laws.{Summary, summary}
 use Rattle.element.proofs.Left.{length-placed_from}
 
 module _ (m : Meaning) (d : Direction) (outer : Outer) (e : List ℕ) where
-  cut_framed : (o : ℕ) (us : List ElementUnit) (p : ℕ) (c : Cut) → framed p c ≡ whole o us → c ≡ cut us
-  cut_framed o us p (cut vs) q = cc
-  cut_framed o us p (stuck_at k) q = cc
-
-  cut_read : (o : ℕ) (us : List ElementUnit) (r : Result ℕ ReaderFault) → read_framed m d outer e r ≡ whole o us → cut_on (from_header m d outer e) ≡ cut us
-  cut_read o us (Ok p) q = cut_framed o us p _ q
-  cut_read o us (Err f) q = cc
-
   -- the units from the header on are those of the element
-  pub units_read : (o : ℕ) (us : List ElementUnit) → reads m d outer e ≡ whole o us → units_on (from_header m d outer e) ≡ us
-  units_read o us q = ap (λ (c : Cut). cut_units c) (cut_read o us (frame outer e) q)
+  units_read : (o : ℕ) (us : List ElementUnit) (r : Result ℕ ReaderFault) (c : Cut) → c ≡ cut_on (from_header m d outer e) → read_framed m d outer e r ≡ whole o us → us ≡ cut_units c
+  units_read o us (Ok p) (cut vs) s q = cc
+  units_read o us (Ok p) (stuck_at k) s q = cc
+  units_read o us (Err f) c s q = cc
 
   hands_out : (s : Summary) (r : Reading) → reads m d outer e ≡ r → Ok s ≡ summary m d outer e r → HandsOut m d outer e s.configuration s.units.walk
-  hands_out s (whole o us) read q =
-      let same : s ≡ record { configuration = o; units = record { walk = from_header m d outer e; count = length us } } = cc in
-      let units : units_on (from_header m d outer e) ≡ us = units_read o us read in
-      subst (λ (t : Summary). HandsOut m d outer e t.configuration t.units.walk) (sym same)
-      (record {
-        walk = refl;
-        whole_element = read ∙ ap (whole o) (sym units);
-        count = length-placed_from m d (header outer) (units_on (from_header m d outer e));
-      })
   hands_out s (declined f) read q = cc
+  hands_out s (whole o us) read q =
+      let units = units_read o us (frame outer e) (cut_on (from_header m d outer e)) refl read in
+      let same : s ≡ record { configuration = o; units = record { walk = from_header m d outer e; count = length us } } = cc in
+      rw same (record { walk = refl; whole_element = read ∙ ap (whole o) units; count = length-placed_from m d (header outer) (units_on (from_header m d outer e)) })
 
   -- what a whole element that was found hands out
   pub whole_found : (s : Summary) → Ok s ≡ summary m d outer e (reads m d outer e) → HandsOut m d outer e s.configuration s.units.walk
