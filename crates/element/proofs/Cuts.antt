@@ -1,13 +1,13 @@
 -- Octets cut into units: reading what was written, and writing what was read.
 use Rattle.std.proofs.Common.{◌≡◌, ℕ, zero, suc, ◌+◌, ◌<◌, ◌≤◌, List, [], ◌∷◌, ◌++◌, length, refl, ap, append_assoc, arith, length-append}
-use Rattle.std.specs.List.{AllByRecursion}
 use Rattle.std.proofs.lemmas.Bool.Decides.{nat_tests as tests}
+use Rattle.std.specs.List.{AllByRecursion}
 use Rattle.catalogue.specs.declared.Direction.{Direction}
 use Rattle.catalogue.specs.Meaning.{Meaning}
 use Rattle.element.specs.Units.{Octets, ElementUnit, size, written, all_written}
 use Rattle.element.specs.Reading.{Front, finished, stands, past, Cut, cut, stuck_at, onto, front, next, cutting}
 use Rattle.element.specs.Places.{place_from}
-use Rattle.element.proofs.Fronts.{front_read, front_back, rest_octets, front_finished}
+use Rattle.element.proofs.Fronts.{front_read, front_back, rest_octets}
 
 abbrev pub Small : ElementUnit → Type 0
 Small u = u.identifier < 0x10000
@@ -20,13 +20,9 @@ module _ (m : Meaning) (d : Direction) where
   cutting_read [] zero p h = refl
   cutting_read [] (suc k) p h = refl
 
-  -- a unit takes at least three octets
-  pub rest_shorter : (u : ElementUnit) (rest os : List ℕ) → written m d u ++ rest ≡ os → length rest + 3 ≤ length os
-  rest_shorter u rest os e = let same = ap length e in grind (arith, tests, length-append)
-
   pub units_fit : (us : List ElementUnit) → length us ≤ length (all_written m d us)
   units_fit [] = omega arith
-  units_fit (u ∷ us) = omega (arith, rest_shorter u (all_written m d us) _ refl, units_fit us)
+  units_fit (u ∷ us) = grind (arith, units_fit us, length-append)
 
   -- what a cut says of the octets that stand from the place p on: units, all of small identifiers; or whole units up to the place q, where none stands
   abbrev pub CutBack : ℕ → List ℕ → Cut → Type 0
@@ -39,7 +35,7 @@ module _ (m : Meaning) (d : Direction) where
   onto_back p u os rest e s (stuck_at q) g = (u ∷ g.0, g.1, rw append_assoc (cc), g.3, g.4)
 
   next_back : (p : ℕ) (os : List ℕ) → Octets os → (f : Front) → front m d os ≡ f → (then : ℕ → List ℕ → Cut) → ((u : ElementUnit) (rest : List ℕ) → written m d u ++ rest ≡ os → Octets rest → CutBack (p + size m d u) rest (then (p + size m d u) rest)) → CutBack p os (next m d f then p)
-  next_back p os o finished w then h = (front_finished m d os w, tt)
+  next_back p os o finished w then h = (grind (arith, tests), tt)
   next_back p os o past w then h = ([], os, refl, refl, w)
   next_back p os o (stands u rest) w then h =
       let b = front_back m d os u rest o w in onto_back p u os rest b.0 b.1 (then (p + size m d u) rest) (h u rest b.0 (rest_octets m d os u rest o w))
@@ -49,4 +45,4 @@ module _ (m : Meaning) (d : Direction) where
   cutting_back zero p (x ∷ os) h l = absurd (omega arith)
   cutting_back (suc k) p os h l =
       next_back p os h (front m d os) refl (cutting m d k)
-      (λ u rest e o. cutting_back k (p + size m d u) rest o (omega (arith, rest_shorter u rest os e)))
+      (λ u rest e o. let same = ap length e in cutting_back k (p + size m d u) rest o (grind (arith, length-append)))

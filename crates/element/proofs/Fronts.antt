@@ -1,5 +1,5 @@
 -- What stands at the front of octets: reading what was written, and writing what was read.
-use Rattle.std.proofs.Common.{◌≡◌, ℕ, ◌+◌, ◌*◌, ◌<◌, List, [], ◌∷◌, ◌++◌, length, drop, sym, refl, subst, append_assoc, arith, length-append, length-drop, take-append-drop, length-take}
+use Rattle.std.proofs.Common.{◌≡◌, ℕ, ◌+◌, ◌*◌, ◌<◌, List, ◌∷◌, ◌++◌, length, drop, sym, subst, append_assoc, arith, length-append, length-drop, take-append-drop, length-take}
 use Rattle.std.proofs.ByRecursion.{All-drop}
 use Rattle.std.proofs.lemmas.List.{take_at, drop_at, drop-drop}
 use Rattle.std.proofs.lemmas.Bool.Decides.{nat_tests as tests}
@@ -7,7 +7,7 @@ use Rattle.catalogue.specs.declared.Direction.{Direction}
 use Rattle.catalogue.specs.Meaning.{Meaning}
 use Rattle.catalogue.specs.Laws.{Lawful}
 use Rattle.element.specs.Units.{Octets, ElementUnit, size, written}
-use Rattle.element.specs.Reading.{finished, stands, past, front}
+use Rattle.element.specs.Reading.{stands, front}
 
 module _ (m : Meaning) (d : Direction) where
   -- a unit that was written stands at the front
@@ -16,28 +16,15 @@ module _ (m : Meaning) (d : Direction) where
 
   -- a unit that stands at the front was written there, and its identifier has two octets
   pub front_back : (os : List ℕ) (u : ElementUnit) (rest : List ℕ) → Octets os → front m d os ≡ stands u rest → (written m d u ++ rest ≡ os) × (u.identifier < 0x10000)
-  front_back (a ∷ b ∷ c ∷ x ∷ os) u rest h e = grind (arith, tests, take-append-drop, length-take, append_assoc)
   front_back os u rest h e = grind (arith, tests, take-append-drop, length-take, append_assoc)
 
+  -- what follows a unit are octets, where all are
   pub rest_octets : (os : List ℕ) (u : ElementUnit) (rest : List ℕ) → Octets os → front m d os ≡ stands u rest → Octets rest
   rest_octets os u rest h e =
       let r = All-drop (λ (x : ℕ). x < 256) (length (written m d u)) (written m d u ++ rest) (subst Octets (sym (front_back os u rest h e).0) h) in
       rw drop_at at r
 
-  pub front_finished : (os : List ℕ) → front m d os ≡ finished → [] ≡ os
-  front_finished [] e = refl
-  front_finished (a ∷ b ∷ c ∷ x ∷ os) e = grind (arith, tests)
-  front_finished os e = grind (arith, tests)
-
-  pub front_past : (os : List ℕ) → front m d os ≡ past → 0 < length os
-  front_past [] e = cc
-  front_past (x ∷ os) e = omega arith
-
   module _ (law : Lawful m) where
-    -- a unit's octets are as many as its size says
-    pub written_length : (u : ElementUnit) → length (written m d u) ≡ size m d u
-    written_length u = let w = law.width d u.identifier in grind (arith, tests, length-append)
-
     -- a unit takes as many octets as its size says, and the rest are left
     pub front_sized : (os : List ℕ) (u : ElementUnit) (rest : List ℕ) → front m d os ≡ stands u rest → (size m d u + length rest ≡ length os) × (rest ≡ drop (size m d u) os)
     front_sized (a ∷ b ∷ c ∷ x ∷ os) u rest e =

@@ -1,5 +1,5 @@
 -- An element is refused by the first refusal that applies.
-use Rattle.std.proofs.Common.{◌≡◌, ℕ, ◌+◌, ◌<◌, List, [], ◌∷◌, ◌++◌, length, take, drop, Err, ◌⊎◌, sym, refl, ap, ◌∙◌, inl, inr, append_assoc, append-nil, arith, length-append, length-drop, take-append-drop, length-take, take-add}
+use Rattle.std.proofs.Common.{◌≡◌, ℕ, ◌+◌, ◌<◌, List, [], ◌∷◌, ◌++◌, length, take, drop, sym, refl, ap, ◌∙◌, append_assoc, append-nil, arith, length-append, length-drop, take-append-drop, length-take, take-add}
 use Rattle.std.proofs.lemmas.List.{take_at, drop_at}
 use Rattle.std.proofs.lemmas.Bool.Decides.{nat_tests as tests}
 use Rattle.catalogue.specs.declared.Direction.{Direction}
@@ -9,10 +9,9 @@ use Rattle.element.specs.declared.reader.ReaderFault.{ReaderFault}
 use Rattle.element.specs.declared.reader.ReaderFault.TheVariants.{RunsPast}
 use Rattle.element.specs.Outer.{Outer, LawfulOuter, header}
 use Rattle.element.specs.Units.{Octets, ElementUnit, written, all_written}
-use Rattle.element.specs.Reading.{past, front, stuck_at, Reading, whole, declined, frame, reads}
+use Rattle.element.specs.Reading.{stuck_at, Reading, whole, declined, reads}
 use Rattle.element.specs.Refusals.{refusal_of, RunsPastAt, Applies, FirstToApply, RefusedInOrder}
-use Rattle.element.proofs.Fronts.{front_read, front_past}
-use Rattle.element.proofs.Frames.{InFrame}
+use Rattle.element.proofs.Fronts.{front_read}
 use Rattle.element.proofs.Cuts.{CutBack}
 use Rattle.element.proofs.RoundTrips.{reading_is}
 use Rattle.element.proofs.Places.{place_counts, behind, header_found}
@@ -22,20 +21,15 @@ module _ (m : Meaning) (d : Direction) where
   abbrev NoneStands : List ℕ → Type 0
   NoneStands os = (u : ElementUnit) (rest : List ℕ) → os ≡ written m d u ++ rest → ⊥
 
-  past_none : (os : List ℕ) → front m d os ≡ past → NoneStands os
-  past_none os e u rest q = let stands = front_read m d u rest in cc
-
   -- whole units up to where none stands are cut in one way only
   one_cut : (us vs : List ElementUnit) (os ps : List ℕ) → NoneStands os → NoneStands ps → all_written m d us ++ os ≡ all_written m d vs ++ ps → os ≡ ps
   one_cut [] [] os ps h k e = e
-  one_cut [] (v ∷ vs) os ps h k e = absurd (h v (all_written m d vs ++ ps) (e ∙ append_assoc (written m d v) (all_written m d vs) ps))
-  one_cut (u ∷ us) [] os ps h k e = absurd (k u (all_written m d us ++ os) (sym e ∙ append_assoc (written m d u) (all_written m d us) os))
+  one_cut [] (v ∷ vs) os ps h k e = absurd (h v _ (rw append_assoc at e))
+  one_cut (u ∷ us) [] os ps h k e = absurd (k u _ (sym (rw append_assoc at e)))
   one_cut (u ∷ us) (v ∷ vs) os ps h k e =
       let one = front_read m d u (all_written m d us ++ os) in
       let other = front_read m d v (all_written m d vs ++ ps) in
-      let a = append_assoc (written m d u) (all_written m d us) os in
-      let b = append_assoc (written m d v) (all_written m d vs) ps in
-      one_cut us vs os ps h k (cc)
+      one_cut us vs os ps h k (grind (arith, append_assoc))
 
 module _ (outer : Outer) (lawful : LawfulOuter outer) (m : Meaning) (law : Lawful m) (d : Direction) (e : List ℕ) (octets : Octets e) where
   abbrev rest : List ℕ
@@ -47,22 +41,18 @@ module _ (outer : Outer) (lawful : LawfulOuter outer) (m : Meaning) (law : Lawfu
       let n = length (all_written m d us) in
       let at : p ≡ header outer + n = place ∙ place_counts m d law (header outer) us in
       let here : drop p e ≡ left = ap (λ (k : ℕ). drop k e) place ∙ behind m d law outer e us left (sym q) in
-      let parts = take-add (header outer) n e in
-      let front = take_at (all_written m d us) left n refl in
       record {
-        inside = omega (arith, front_past m d left f, ap length here, length-drop p e);
-        before = (us, cc);
-        none = λ u after s. past_none m d left f u after (sym here ∙ s);
+        inside = let long = ap length here in grind (arith, length-drop);
+        before = (us, cc (take-add (header outer) n e, take_at (all_written m d us) left n refl));
+        none = λ u after s. let stands = front_read m d u after in cc;
       }
 
   -- the octets of an element with a unit that runs past the end, after its header
   up_to : (p : ℕ) (r : RunsPastAt m d outer e p) → rest ≡ all_written m d r.before.0 ++ drop p e
   up_to p r =
       let us = all_written m d r.before.0 in
-      let split : e ≡ take (header outer) e ++ (us ++ drop p e) =
-      sym (take-append-drop p e) ∙ ap (λ (l : List ℕ). l ++ drop p e) r.before.1 ∙ append_assoc (take (header outer) e) us (drop p e) in
-      ap (drop (header outer)) split
-      ∙ drop_at (take (header outer) e) (us ++ drop p e) (header outer) (omega (arith, length-take (header outer) e, length-take p e, ap length r.before.1, length-append (take (header outer) e) us, r.inside))
+      let long : length (take (header outer) e) ≡ header outer = omega (arith, length-take (header outer) e, length-take p e, ap length r.before.1, length-append (take (header outer) e) us, r.inside) in
+      cc (take-append-drop p e, append_assoc (take (header outer) e) us (drop p e), drop_at (take (header outer) e) (us ++ drop p e) (header outer) long)
 
   -- an element that is all units has none that runs past the end
   never_past : (us : List ElementUnit) → rest ≡ all_written m d us → (p : ℕ) → RunsPastAt m d outer e p → ⊥
@@ -79,22 +69,16 @@ module _ (outer : Outer) (lawful : LawfulOuter outer) (m : Meaning) (law : Lawfu
   same_fault (RunsPast p) (RunsPast q) a b n = ap RunsPast (one_place p q a b)
   same_fault f g a b n = grind arith
 
-  -- the first four faults are the frame's; the last is of an element in its frame
-  stage : (f : ReaderFault) → reads m d outer e ≡ declined f → (frame outer e ≡ Err f) ⊎ (InFrame outer e × ((refusal_of f).number ≡ 5))
-  stage (RunsPast p) r = inr ((reading_is outer lawful m d e octets (declined (RunsPast p)) r).0, refl)
-  stage f r = inl (reading_is outer lawful m d e octets (declined f) r)
-
   applies : (f : ReaderFault) → reads m d outer e ≡ declined f → Applies m d outer e f
   applies (RunsPast p) r = runs_past p (reading_is outer lawful m d e octets (declined (RunsPast p)) r).1
-  applies f r = let s = stage f r in grind (arith, tests)
+  applies f r = grind (arith, tests)
 
   none_lower : (f : ReaderFault) → reads m d outer e ≡ declined f → (g : ReaderFault) → (refusal_of g).number < (refusal_of f).number → Applies m d outer e g → ⊥
-  none_lower f r (RunsPast p) l a = let s = stage f r in grind (arith, tests)
-  none_lower f r g l a = let s = stage f r in grind (arith, tests)
+  none_lower f r g l a = grind (arith, tests)
 
   none_applies : (o : ℕ) (us : List ElementUnit) → reads m d outer e ≡ whole o us → (f : ReaderFault) → Applies m d outer e f → ⊥
-  none_applies o us r (RunsPast p) a = never_past us (header_found m d law outer lawful e octets o us r).rest p a
-  none_applies o us r f a = let s = (reading_is outer lawful m d e octets (whole o us) r).1 in grind arith
+  none_applies o us r (RunsPast p) a = never_past us (header_found m d law outer lawful e octets o us r).0 p a
+  none_applies o us r f a = grind (arith, tests)
 
   only : (f : ReaderFault) → FirstToApply m d outer e f → (r : Reading) → reads m d outer e ≡ r → r ≡ declined f
   only f a (whole o us) r = absurd (none_applies o us r f a.applies)

@@ -1,17 +1,15 @@
 -- The cutting one unit at a time, as a loop goes: the fuel does not matter.
-use Rattle.std.proofs.Common.{◌≡◌, ℕ, zero, suc, ◌+◌, ◌≤◌, List, [], ◌∷◌, length, refl, ap, arith}
+use Rattle.std.proofs.Common.{◌≡◌, ℕ, zero, suc, ◌+◌, ◌≤◌, List, [], ◌∷◌, length, refl, arith}
 use Rattle.catalogue.specs.declared.Direction.{Direction}
 use Rattle.catalogue.specs.Meaning.{Meaning}
 use Rattle.catalogue.specs.Laws.{Lawful}
 use Rattle.element.specs.Units.{ElementUnit, size}
-use Rattle.element.specs.Reading.{Front, finished, stands, past, Cut, onto, front, next, cutting}
+use Rattle.element.specs.Reading.{Front, stands, Cut, front, next, cutting}
 use Rattle.element.proofs.Fronts.{front_sized}
 
 -- cuts that go on alike behind a unit are alike
 pub next_alike : (m n : Meaning) (d : Direction) (f : Front) (g h : ℕ → List ℕ → Cut) (p : ℕ) → ((u : ElementUnit) (rest : List ℕ) → f ≡ stands u rest → g (p + size m d u) rest ≡ h (p + size n d u) rest) → next m d f g p ≡ next n d f h p
-next_alike m n d finished g h p e = refl
-next_alike m n d past g h p e = refl
-next_alike m n d (stands u rest) g h p e = ap (onto u) (e u rest refl)
+next_alike m n d f g h p e = grind arith
 
 module _ (m : Meaning) (d : Direction) (law : Lawful m) where
   -- enough fuel is enough
