@@ -1,32 +1,27 @@
 -- One unit handed out of those that are left.
-use Rattle.std.proofs.Common.{◌≡◌, ℕ, suc, ◌+◌, ◌-◌, List, [], ◌∷◌, length, Some, Ok, Option, Result, sym, refl, ap, ◌∙◌, ap₂, arith}
+use Rattle.std.proofs.Common.{◌≡◌, ℕ, ◌+◌, ◌-◌, List, [], ◌∷◌, length, Some, Ok, Option, Result, sym, refl, ap, ◌∙◌, arith}
 use Rattle.catalogue.specs.declared.Direction.{Direction}
 use Rattle.catalogue.specs.Meaning.{Meaning}
 use Rattle.catalogue.specs.Laws.{Lawful}
 use Rattle.element.specs.declared.cursor.PlacedUnit.{PlacedUnit}
 use Rattle.element.specs.declared.reader.ReaderFault.{ReaderFault}
 use Rattle.element.specs.Units.{ElementUnit, size}
-use Rattle.element.specs.Reading.{Cut, cut, stuck_at, onto}
+use Rattle.element.specs.Reading.{Cut, onto}
 use Rattle.element.specs.Walk.{Placed, Walk, seen, placed_unit, placed_from, unit_before, one_on, cut_on}
 use Rattle.element.specs.Left.{count_of, cut_units, units_left}
 use Rattle.element.proofs.Walk.{unit_of, turned_on}
 
 pub length-placed_from : (m : Meaning) (d : Direction) (p : ℕ) (us : List ElementUnit) → length (placed_from m d p us) ≡ length us
 length-placed_from m d p [] = refl
-length-placed_from m d p (u ∷ us) = ap (λ (k : ℕ). suc k) (length-placed_from m d (p + size m d u) us)
-
-length-cut_units : (c : Cut) (n : ℕ) → count_of c ≡ Some n → length (cut_units c) ≡ n
-length-cut_units (cut us) n h = cc
-length-cut_units (stuck_at p) n h = cc
+length-placed_from m d p (u ∷ us) = omega (arith, length-placed_from m d (p + size m d u) us)
 
 -- as many units are left as were counted
 pub length-units_left : (w : Walk) (n : ℕ) → count_of (cut_on w) ≡ Some n → length (units_left w) ≡ n
-length-units_left w n h = length-placed_from w.meaning w.direction w.position.place (cut_units (cut_on w)) ∙ length-cut_units (cut_on w) n h
+length-units_left w n h = let all = length-placed_from w.meaning w.direction w.position.place (cut_units (cut_on w)) in grind arith
 
 -- a unit in front of octets that were cut into whole units
 onto_whole : (u : ElementUnit) (c : Cut) (n : ℕ) → count_of (onto u c) ≡ Some n → (count_of c ≡ Some (n - 1)) × (cut_units (onto u c) ≡ u ∷ cut_units c)
-onto_whole u (cut us) n h = let q : suc (length us) ≡ n = cc in (ap (λ (k : ℕ). Some k) (omega arith), refl)
-onto_whole u (stuck_at p) n h = cc
+onto_whole u c n h = grind arith
 
 -- what a walk over n whole units, and the walk behind the first of them, say of each other
 pub record HandedOut (w t : Walk) (n : ℕ) (u : Placed) : Type 0 where
@@ -35,17 +30,6 @@ pub record HandedOut (w t : Walk) (n : ℕ) (u : Placed) : Type 0 where
 
 pub handed_out : (w t : Walk) → Lawful w.meaning → (n : ℕ) (r : Result (Option PlacedUnit) ReaderFault) (u : PlacedUnit) → count_of (cut_on w) ≡ Some n → seen r ≡ unit_before w → t ≡ one_on w → r ≡ Ok (Some u) → HandedOut w t n (placed_unit u)
 handed_out w t law n r u counted answer state is =
-    let m = w.meaning in
-    let d = w.direction in
     let more = turned_on w t law r u answer state is in
-    let one = unit_of (placed_unit u) in
-    let whole = onto_whole one (cut_on t) n (ap count_of (sym more.cuts) ∙ counted) in
-    let onward : placed_from m d t.position.place (cut_units (cut_on t)) ≡ units_left t = ap (λ (x : Walk). placed_from x.meaning x.direction t.position.place (cut_units (cut_on t))) (sym state) in
-    record {
-      count = whole.0;
-      first =
-          ap (λ (c : Cut). placed_from m d w.position.place (cut_units c)) more.cuts
-          ∙ ap (placed_from m d w.position.place) whole.1
-          ∙ ap₂ (λ (p : Placed) (k : ℕ). p ∷ placed_from m d k (cut_units (cut_on t))) (sym more.here) (sym more.behind)
-          ∙ ap (λ (ps : List Placed). placed_unit u ∷ ps) onward;
-    }
+    let whole = onto_whole (unit_of (placed_unit u)) (cut_on t) n (ap count_of (sym more.cuts) ∙ counted) in
+    grind arith

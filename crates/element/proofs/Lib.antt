@@ -1,6 +1,5 @@
 pub mod Octets
 pub mod Fronts
-pub mod Frames
 pub mod Cuts
 pub mod Steps
 pub mod RoundTrips
@@ -8,7 +7,6 @@ pub mod Places
 pub mod Refusals
 pub mod Alike
 pub mod Walk
-pub mod Counts
 pub mod Left
 pub mod Summaries
 pub mod Laws

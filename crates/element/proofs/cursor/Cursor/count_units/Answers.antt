@@ -1,16 +1,9 @@
-use Rattle.std.proofs.Common.{sym, ap, ◌∙◌, rules, arith}
-use Rattle.element.specs.Walk.{walk_of, cut_on, placed_unit}
-use Rattle.element.proofs.Walk.{unit_of, turned_on}
-use Rattle.element.proofs.Counts.{counted_with, counted_more}
+use Rattle.std.proofs.Common.{rules, arith}
+use Rattle.element.proofs.Walk.{turned_on}
 use Rattle.element.proofs.cursor.Cursor.count_units.Goals as goal
 
 pub loop-units-preserved : goal.loop-units-preserved
 loop-units-preserved g c =
-    let w = walk_of g.C.Catalogue.meaning c.loop-units.cursor in
-    let t = walk_of g.C.Catalogue.meaning c.next_unit.new.self in
-    let law = g.met.C.Catalogue.lawful c.loop-units.cursor.catalogue.now in
-    let more = turned_on w t law c.next_unit.result c.in-Some.field-0 c.next_unit.ensures.answer c.next_unit.ensures.state (search rules) in
-    record {
-      whole = counted_more c.loop-units.units (unit_of (placed_unit c.in-Some.field-0)) (cut_on t) ∙ ap (counted_with c.loop-units.units) (sym more.cuts) ∙ c.loop-units.invariant.whole;
-      room = omega (arith, more.less, c.loop-units.invariant.room);
-    }
+    let more = turned_on _ _ (g.met.C.Catalogue.lawful _) c.next_unit.result c.in-Some.field-0 c.next_unit.ensures.answer c.next_unit.ensures.state (search rules) in
+    let whole = c.loop-units.invariant.whole in
+    grind arith

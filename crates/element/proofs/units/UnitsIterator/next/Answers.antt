@@ -4,13 +4,11 @@ use Rattle.element.proofs.units.UnitsIterator.next.Goals as goal
 
 pub invariant_of-self-2 : goal.invariant_of-self-2
 invariant_of-self-2 g c =
-    let law = g.met.C.Catalogue.lawful c.args.self.now.cursor.catalogue.now in
-    record { whole = (handed_out _ _ law _ c.next_unit.result c.in_ok-unit.unit c.args.self.now.whole c.next_unit.ensures.answer c.next_unit.ensures.state (search rules)).count }
+    record { whole = (handed_out _ _ (g.met.C.Catalogue.lawful _) _ _ c.in_ok-unit.unit c.args.self.now.whole c.next_unit.ensures.answer c.next_unit.ensures.state (search rules)).count }
 
 pub returns-clause-steps : goal.returns-clause-steps
 returns-clause-steps g c =
-    let law = g.met.C.Catalogue.lawful c.args.self.now.cursor.catalogue.now in
-    (handed_out _ _ law _ c.next_unit.result c.in_ok-unit.unit c.args.self.now.whole c.next_unit.ensures.answer c.next_unit.ensures.state (search rules)).first
+    (handed_out _ _ (g.met.C.Catalogue.lawful _) _ _ c.in_ok-unit.unit c.args.self.now.whole c.next_unit.ensures.answer c.next_unit.ensures.state (search rules)).first
 
 pub returns-clause-goes : goal.returns-clause-goes
 returns-clause-goes g c = let fewer = ap length (returns-clause-steps g c) in search rules
