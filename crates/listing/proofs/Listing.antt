@@ -14,8 +14,8 @@ placed_lines-from m d p [] = refl
 placed_lines-from m d p (u ∷ us) = ap (λ (l : List ℕ). ended (unit_line (placed m d p u)) ++ l) (placed_lines-from m d (p + size m d u) us)
 
 -- the heading, the lines of the units that a whole element hands out, and their number are its listing
-pub listing_whole : (m : Meaning) (d : Direction) (e : List ℕ) (o : ℕ) (w : Walk) → HandsOut m d options e o w → ended heading ++ (placed_lines (units_left w) ++ ended (count_line (length (units_left w)) (length e))) ≡ listing m d e
-listing_whole m d e o w so =
+pub listing_whole : (m : Meaning) (d : Direction) (e : List ℕ) (w : Walk) → HandsOut m d options e w → ended heading ++ (placed_lines (units_left w) ++ ended (count_line (length (units_left w)) (length e))) ≡ listing m d e
+listing_whole m d e w so =
     let us = units_on w in
     let left : units_left w ≡ placed_from m d (header options) us = ap (λ (x : Walk). placed_from x.meaning x.direction x.position.place us) so.walk in
     ap₂ (λ (ls : List ℕ) (n : ℕ). ended heading ++ (ls ++ ended (count_line n (length e)))) (ap placed_lines left ∙ placed_lines-from m d (header options) us) so.count
