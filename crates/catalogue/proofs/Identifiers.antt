@@ -1,9 +1,11 @@
 -- A narrowing list: each identifier in a place of its own, the other places empty.
 use denote.Param.Members.{Mut, Called}
 use Rattle.std.specs.Array.{IsFromFnResult, IsFromFnResultFrom}
-use Rattle.std.specs.List.{filter_map}
+use Rattle.std.specs.List.{filter_map, list_any}
+use Rattle.std.specs.Option.{option_eq}
 use Rattle.std.proofs.lemmas.Bool.{cases_lt}
-use Rattle.std.proofs.Common.{◌≡◌, ℕ, zero, suc, ◌+◌, ◌<◌, ◌≤◌, List, [], ◌∷◌, length, get_or, slice_get, None, Option, refl, subst, arith}
+use Rattle.std.proofs.Common.{◌≡◌, ℕ, zero, suc, ◌+◌, ◌<◌, ◌≤◌, List, [], ◌∷◌, length, get_or, slice_get, None, Some, Option, Bool, ◌||◌, nat_eq, refl, ap, subst, arith}
+use Rattle.catalogue.specs.Layers.{among}
 
 -- the identifiers that the places hold, in order
 abbrev held : List (Option ℕ) → List ℕ
@@ -43,3 +45,9 @@ module _ {F : Type 0} (g : Mut F (ℕ × Unit {0}) (Option ℕ)) (f : F) (xs : L
   placed_by_calls n made few reads =
       let long = made.long in
       placed xs ps (omega arith) (λ k lt. each reads n 0 made.each k (omega arith) (omega arith))
+
+-- an identifier stands in a place if it is among those that the places hold
+pub list_any-places : (i : ℕ) (ps : List (Option ℕ)) → list_any (λ (p : Option ℕ). option_eq nat_eq p (Some i)) ps ≡ among (held ps) i
+list_any-places i [] = refl
+list_any-places i (None ∷ ps) = list_any-places i ps
+list_any-places i (Some x ∷ ps) = ap (λ (b : Bool). nat_eq x i || b) (list_any-places i ps)

@@ -52,23 +52,22 @@ impl OperatorCode {
         ensures answer { result ≡ layers.operator_code mcc mnc digits }
         ensures law { operators.OperatorLaw mcc mnc digits }
     {
+        if mcc > 999 {
+            return Err(CatalogueFault::MccTooLarge);
+        }
         let limit = match digits {
             2 => 100,
-            _ => 1000,
+            3 => 1000,
+            _ => return Err(CatalogueFault::WrongDigits),
         };
-        if mcc > 999 {
-            Err(CatalogueFault::MccTooLarge)
-        } else if digits != 2 && digits != 3 {
-            Err(CatalogueFault::WrongDigits)
-        } else if mnc >= limit {
-            Err(CatalogueFault::MncTooLarge)
-        } else {
-            Ok(octets_of(mcc, mnc, digits))
+        if mnc >= limit {
+            return Err(CatalogueFault::MncTooLarge);
         }
+        Ok(octets_of(mcc, mnc, digits))
     }
 }
 
-// Two digits in an octet, the high half first.
+// Two digits in an octet, the high half first. That the sum fits an octet is proved, so `as` loses nothing.
 fn halves(high: u16, low: u16) -> u8
     requires high { high < 16 }
     requires low { low < 16 }
@@ -100,7 +99,8 @@ fn octets_of(mcc: u16, mnc: u16, digits: u8) -> OperatorCode
     }
 }
 
-/// The identifiers that a narrowing layer lets through. An array, since the core has no heap.
+/// The identifiers that a narrowing layer lets through. An array of places, since the core has no heap; the kit's `ArrayVec`
+/// has no heap either, but is not `Copy`, and layers are copied.
 #[derive(Clone, Copy)]
 pub struct IdentifierList {
     identifiers: [Option<u16>; MOST_IDENTIFIERS],
@@ -118,14 +118,11 @@ impl IdentifierList {
         Ok(copied(identifiers))
     }
 
-    // Whether an identifier is listed. By `filter_map`, since the check does not follow `flatten` over options.
+    // Whether an identifier is listed.
     fn contains(&self, identifier: u16) -> bool
         ensures answer { result ≡ layers.among (layers.identifiers_of self.now) identifier }
     {
-        self.identifiers
-            .iter()
-            .filter_map(|held| *held)
-            .any(|held| held == identifier)
+        self.identifiers.contains(&Some(identifier))
     }
 }
 

@@ -30,7 +30,7 @@ pub enum Layer {
 pub struct Refusal {
     /// The line's number. It stays a number, since it is what leaves the device; in code each part's faults are an enum.
     pub number: u8,
-    /// What this number counts depends on the refusal's number.
+    /// What this number counts, or which part it names, depends on the refusal's number; the faults' enums tell which.
     pub place: usize,
     pub layer: Layer,
 }
@@ -77,7 +77,8 @@ pub enum Rule {
     StrikeOrder(OperatorCode),
 }
 
-/// Identifiers of which at least one must also stand in the element, with right contents.
+/// Identifiers of which at least one must also stand in the element, with right contents. At most two, and no order of them
+/// or gap between them can differ, so that equal answers are equal values.
 #[derive(Clone, Copy, PartialEq, Debug)]
 pub enum Companions {
     None,
@@ -90,7 +91,7 @@ pub enum Companions {
 pub struct Row {
     pub rule: Rule,
     /// 1 to 9, or 0, which keeps nothing and is never full. It stays a number: the rules speak of slot 0 as of the others,
-    /// a slot's number is its bit in a wish, and whoever asks for a slot may name any number.
+    /// a catalogue may name any number, and the laws speak of all.
     pub slot: u8,
     pub companions: Companions,
 }
@@ -98,7 +99,7 @@ pub struct Row {
 /// What a catalogue answers for an identifier in a direction.
 #[derive(Clone, Copy, PartialEq, Debug)]
 pub struct Answer {
-    /// How many octets the length field has.
+    /// How many octets the length field has: a count, which sizes are summed from, so it is a number.
     pub width: u8,
     /// The row, if the identifier is supported in that direction.
     pub entry: Option<Row>,

@@ -1,16 +1,11 @@
 -- What is left of a walk over whole units.
-use Rattle.std.specs.Prelude.{◌≡◌, ℕ, List, [], length, Some, None, Option}
+use Rattle.std.specs.Prelude.{◌≡◌, ℕ, List, [], length}
 use Rattle.catalogue.specs.declared.Direction.{Direction}
 use Rattle.catalogue.specs.Meaning.{Meaning}
 use Rattle.element.specs.Outer.{Outer, configuration}
 use Rattle.element.specs.Units.{ElementUnit}
 use Rattle.element.specs.Reading.{Cut, cut, stuck_at, whole, reads}
 use Rattle.element.specs.Walk.{Placed, Walk, cut_on, placed_from, from_header}
-
--- how many units octets were cut into; none if one of them runs past the end
-abbrev pub count_of : Cut → Option ℕ
-count_of (cut us) = Some (length us)
-count_of (stuck_at p) = None
 
 abbrev pub cut_units : Cut → List ElementUnit
 cut_units (cut us) = us

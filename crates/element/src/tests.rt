@@ -3,7 +3,7 @@ ghost use Rattle.catalogue.specs.Meaning.{answer};
 ghost use Rattle.std.proofs.Common.{rules};
 ghost use Rattle.std.specs.Prelude.{None};
 
-use crate::{Cursor, ReaderFault, read};
+use crate::{Cursor, ReaderFault, Units, Whole, read};
 use catalogue::{Answer, Catalogue, Direction, Edition, Layer, Refusal};
 use std::test::Fail;
 
@@ -24,18 +24,15 @@ impl Catalogue for Wide {
     }
 }
 
-// The configuration octet of a whole element to modem, and how many units it has.
-fn read_by<C: Catalogue>(catalogue: &C, element: &[u8]) -> Result<(u8, usize), ReaderFault> {
-    let whole = read(catalogue, Direction::ToModem, element)?;
-    Ok((whole.configuration, whole.units.len()))
+fn read_long(element: &[u8]) -> Result<Whole, ReaderFault> {
+    read(&Edition::Long, Direction::ToModem, element)
 }
 
-fn read_long(element: &[u8]) -> Result<(u8, usize), ReaderFault> {
-    read_by(&Edition::Long, element)
-}
-
-fn whole(configuration: u8, units: usize) -> Result<(u8, usize), ReaderFault> {
-    Ok((configuration, units))
+fn whole(configuration: u8, units: usize) -> Result<Whole, ReaderFault> {
+    Ok(Whole {
+        configuration,
+        units,
+    })
 }
 
 #[test]
@@ -124,7 +121,7 @@ fn walks(rt: HostRuntime) -> Result<(), Fail> {
     let mut wide = at_first.under(&Wide, Direction::ToModem);
     assert_eq!(rt; wide.next_unit(), Err(ReaderFault::RunsPast(3)));
     // the units of the whole element are the same
-    let mut units = read(&Edition::Long, Direction::ToModem, &element)?.units;
+    let mut units = Units::of(&Edition::Long, Direction::ToModem, &element)?;
     let mut again = units.clone()?;
     assert_eq!(rt; units.next(), Some(dns));
     assert_eq!(rt; units.len(), 1);
@@ -138,15 +135,27 @@ fn walks(rt: HostRuntime) -> Result<(), Fail> {
 #[test]
 fn two_octet_lengths(rt: HostRuntime) {
     assert_eq!(rt;
-        read_by(&Wide, &[0x27, 0x06, 0x80, 0x00, 0x23, 0x00, 0x01, 0xAA]),
+        read(
+            &Wide,
+            Direction::ToModem,
+            &[0x27, 0x06, 0x80, 0x00, 0x23, 0x00, 0x01, 0xAA]
+        ),
         whole(0x80, 1)
     );
     assert_eq!(rt;
-        read_by(&Wide, &[0x27, 0x04, 0x80, 0x00, 0x23, 0x00]),
+        read(
+            &Wide,
+            Direction::ToModem,
+            &[0x27, 0x04, 0x80, 0x00, 0x23, 0x00]
+        ),
         Err(ReaderFault::RunsPast(3))
     );
     assert_eq!(rt;
-        read_by(&Wide, &[0x27, 0x06, 0x80, 0x00, 0x23, 0x01, 0x00, 0xAA]),
+        read(
+            &Wide,
+            Direction::ToModem,
+            &[0x27, 0x06, 0x80, 0x00, 0x23, 0x01, 0x00, 0xAA]
+        ),
         Err(ReaderFault::RunsPast(3))
     );
 }

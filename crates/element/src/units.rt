@@ -1,8 +1,8 @@
 // The units of a whole element, handed out one after the other.
-ghost use Rattle.std.specs.Prelude.{◌≡◌, Some};
+ghost use Rattle.std.specs.Prelude.{◌≡◌, Ok};
 ghost use Rattle.std.proofs.Props.{props};
 ghost use Rattle.element.specs.Walk.{cut_on, walk_of};
-ghost use Rattle.element.specs.Left.{count_of};
+ghost use Rattle.element.specs.Counts.{counted};
 
 use crate::cursor::{Cursor, PlacedUnit};
 use crate::reader::ReaderFault;
@@ -14,7 +14,7 @@ use std::alloc::AllocError;
 pub struct Units<'c, 'a, C: Catalogue> {
     cursor: Cursor<'c, 'a, C>,
     left: usize,
-    ghost whole: { count_of (cut_on (walk_of C.meaning cursor)) ≡ Some left } by { Prim.hlevel props },
+    ghost whole: { counted (cut_on (walk_of C.meaning cursor)) ≡ Ok left } by { Prim.hlevel props },
 }
 
 impl<'c, 'a, C: Catalogue> Units<'c, 'a, C> {

@@ -97,7 +97,8 @@ fn piled_layers(rt: HostRuntime) -> Result<(), Fail> {
     Ok(())
 }
 
-// A catalogue that lists nothing, with length fields of two octets.
+// A catalogue that lists nothing, with length fields of two octets. The reader's tests have their own, since no crate sees
+// another's tests.
 #[derive(Clone, Copy)]
 struct Wide;
 

@@ -11,7 +11,8 @@ use crate::rules::{is_allowed, is_right};
 use catalogue::{Catalogue, Companions, Row};
 use element::{PlacedUnit, Units};
 
-/// What became of a unit, by the number of the check that failed. All but `Accepted` are turned aside.
+/// What became of a unit, by the number of the check that failed. All but `Accepted` are turned aside. It is one enum of six,
+/// as the rules number six verdicts and a row holds one of them.
 #[derive(Clone, Copy, PartialEq, Debug)]
 pub enum Verdict {
     Accepted = 0,

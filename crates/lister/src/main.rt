@@ -19,7 +19,8 @@ fn main(rt: HostRuntime) -> io::Result<()> {
 }
 
 // Reads into the buffer until it is full or the input ends, and answers how many octets came.
-// Reads may come in pieces: each turn brings an octet or more, or is the last, so as many turns as octets are enough.
+// The buffer is an array of one size, so no library call that lets a buffer grow takes the loop's place. Reads may come in
+// pieces: each turn brings an octet or more, or is the last, so as many turns as octets are enough.
 fn fill<R: Read>(reader: &mut R, buffer: &mut [u8]) -> io::Result<usize>
     ensures answer { IfOk result (λ n. n ≤ length buffer.old) }
     ensures octets { IfOk result (λ n.

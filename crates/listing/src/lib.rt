@@ -1,4 +1,4 @@
-// The text that the lister prints: a type for each line, and a function for the whole listing.
+// The text that the lister prints: a type for each line but the heading, and a function for the whole listing.
 #![tactic(auto)]
 
 mod lines;

@@ -29,7 +29,7 @@ pub fn heading() -> &'static str
 }
 
 /// A unit's line: its place, its identifier in hexadecimal and the length of its contents.
-#[derive(Clone, Copy)]
+#[derive(Clone, Copy, PartialEq, Debug)]
 pub struct UnitLine<'a>(pub PlacedUnit<'a>);
 
 impl fmt::Display for UnitLine<'_> {
@@ -73,7 +73,8 @@ impl fmt::Display for FaultLine {
     }
 }
 
-// The four hexadecimal figures of an identifier, the highest first.
+// The four hexadecimal figures of an identifier, the highest first. By `hex_figure` and not by a format's own figures, so that
+// the law of the sixteen figures is one of what is printed.
 #[derive(Clone, Copy)]
 struct Figures(u16);
 
