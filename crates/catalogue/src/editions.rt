@@ -1,4 +1,5 @@
-// The short and the long edition. Each decides a row by ranges of identifiers, with the direction as a guard.
+// The short and the long edition. Each decides a row by ranges of identifiers, with the direction as a guard: a rule of the
+// project asks for this form, in which an identifier that has one row both ways stands once.
 ghost use Rattle.std.specs.Prelude.{◌≡◌};
 ghost use Rattle.catalogue.specs.Editions as tables;
 ghost use Rattle.catalogue.specs.declared.editions.Edition.TheVariants.{Short, Long};

@@ -18,11 +18,11 @@ pub const STRIKE_ORDER: u16 = 0xFF01;
 pub enum CatalogueFault {
     /// A narrowing list holds 16 identifiers; so many were given.
     TooManyIdentifiers(usize),
-    /// A mobile country code has three digits.
+    /// A mobile country code has three digits. Its place is 1, as the first of an operator's numbers.
     MccTooLarge,
-    /// A mobile network code has two digits or three.
+    /// A mobile network code has two digits or three. Its place is 2.
     WrongDigits,
-    /// The mobile network code has more digits than were named.
+    /// The mobile network code has more digits than were named. Its place is 3.
     MncTooLarge,
 }
 
@@ -67,7 +67,8 @@ impl OperatorCode {
     }
 }
 
-// Two digits in an octet, the high half first. That the sum fits an octet is proved, so `as` loses nothing.
+// Two digits in an octet, the high half first. By `as`, which is proved to lose nothing: the library has no narrowing without
+// a test.
 fn halves(high: u16, low: u16) -> u8
     requires high { high < 16 }
     requires low { low < 16 }
@@ -100,7 +101,8 @@ fn octets_of(mcc: u16, mnc: u16, digits: u8) -> OperatorCode
 }
 
 /// The identifiers that a narrowing layer lets through. An array of places, since the core has no heap; the kit's `ArrayVec`
-/// has no heap either, but is not `Copy`, and layers are copied.
+/// has no heap either, but is not `Copy`, and layers are copied. It has no `Model`: a type that is `Copy` must give its fields
+/// back from it, and the same identifiers may stand in other places.
 #[derive(Clone, Copy)]
 pub struct IdentifierList {
     identifiers: [Option<u16>; MOST_IDENTIFIERS],

@@ -30,7 +30,7 @@ pub enum Layer {
 pub struct Refusal {
     /// The line's number. It stays a number, since it is what leaves the device; in code each part's faults are an enum.
     pub number: u8,
-    /// What this number counts, or which part it names, depends on the refusal's number; the faults' enums tell which.
+    /// What this number counts, or which part it names, depends on the refusal's number; each fault's enum says which.
     pub place: usize,
     pub layer: Layer,
 }
@@ -77,8 +77,8 @@ pub enum Rule {
     StrikeOrder(OperatorCode),
 }
 
-/// Identifiers of which at least one must also stand in the element, with right contents. At most two, and no order of them
-/// or gap between them can differ, so that equal answers are equal values.
+/// Identifiers of which at least one must also stand in the element, with right contents. At most two, so three cases; in an
+/// array of options there could be a gap.
 #[derive(Clone, Copy, PartialEq, Debug)]
 pub enum Companions {
     None,

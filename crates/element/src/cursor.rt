@@ -19,7 +19,9 @@ pub struct PlacedUnit<'a> {
     pub contents: &'a [u8],
 }
 
-/// A walk over the units of a framed element. It stands before the next unit.
+/// A walk over the units of a framed element. It stands before the next unit: at a place of the octets, since units and faults
+/// tell places, and what is left of a slice has lost them. It has no `Model`, as a model is data and a catalogue's meaning is a
+/// function.
 #[derive_where(Clone, Copy)]
 pub struct Cursor<'c, 'a, C> {
     catalogue: &'c C,
@@ -28,7 +30,8 @@ pub struct Cursor<'c, 'a, C> {
     place: usize,
 }
 
-// The catalogue and the direction come in with an element, here and at `read`; from there on the cursor carries them.
+// The catalogue and the direction come in with an element, at `open`, `under`, `Units::of` and the functions above these;
+// a struct of the two would be made at each call and be taken apart at once. From there on the cursor carries them.
 impl<'c, 'a, C: Catalogue> Cursor<'c, 'a, C> {
     /// Stands before the first unit of an element, or gives the fault of the element's frame.
     pub fn open(

@@ -50,7 +50,8 @@ impl From<ReaderFault> for Refusal {
     }
 }
 
-/// Reads an element from its frame to its last unit: it is whole, or the answer is the first refusal that applies.
+/// Reads an element from its frame to its last unit: it is whole, or the answer is the first refusal that applies. Catalogue
+/// and direction come in with the element, as at `Cursor::open`.
 pub fn read<C: Catalogue>(
     catalogue: &C,
     direction: Direction,

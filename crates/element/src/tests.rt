@@ -7,8 +7,8 @@ use crate::{Cursor, ReaderFault, Units, Whole, read};
 use catalogue::{Answer, Catalogue, Direction, Edition, Layer, Refusal};
 use std::test::Fail;
 
-// A catalogue that supports nothing, with length fields of two octets. The judge's tests have their own, since no crate sees
-// another's tests.
+// A catalogue that supports nothing, with length fields of two octets. The judge's tests have their own: no crate sees
+// another's tests, and one for both would be public and no test.
 struct Wide;
 
 impl Catalogue for Wide {

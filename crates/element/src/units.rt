@@ -10,7 +10,7 @@ use catalogue::{Answer, Catalogue, Direction};
 use std::alloc::AllocError;
 
 /// The units of a whole element from one of them on, each where it stands. Being whole, it has no unit that runs past its
-/// end, so handing out the units never fails.
+/// end, so handing out the units never fails. No `Model`, as of the cursor.
 pub struct Units<'c, 'a, C: Catalogue> {
     cursor: Cursor<'c, 'a, C>,
     left: usize,
@@ -26,7 +26,8 @@ impl<'c, 'a, C: Catalogue> Units<'c, 'a, C> {
     ghost use Rattle.element.specs.Handed.{walk_of_units, walks, handing_out};
     ghost use Rattle.element.specs.Laws.{ReadingLaw};
 
-    /// The units of an element, if it is whole; or the first refusal that applies.
+    /// The units of an element, if it is whole; or the first refusal that applies. Catalogue and direction come in with the
+    /// element, as at `Cursor::open`.
     pub fn of(
         catalogue: &'c C,
         direction: Direction,

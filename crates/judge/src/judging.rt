@@ -25,7 +25,7 @@ pub struct JudgedUnit {
     pub verdict: Verdict,
 }
 
-/// Rows that nothing was written to, enough for every element.
+/// Rows that nothing was written to, enough for every element. An array, since the core has no heap.
 pub fn blank_rows() -> [JudgedUnit; MOST_UNITS]
     ensures answer { result ≡ replicate (judging.most_units options) judging.blank }
 {
@@ -72,7 +72,8 @@ impl From<ReaderFault> for JudgeFault {
 }
 
 /// Judges an element: writes a row for each unit into the caller's rows and answers their number; later rows stay. Declined,
-/// it leaves every row as it was. The rows are the caller's, since the core has no heap.
+/// it leaves every row as it was. The rows are the caller's, since the core has no heap; catalogue and direction come in with
+/// the element, as at `Units::of`.
 #[tactic(auto, using(crate::proofs::Cases::worked_cases))]
 pub fn judge<C: Catalogue>(
     catalogue: &C,

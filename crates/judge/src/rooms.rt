@@ -36,7 +36,7 @@ impl Room {
         slot != 0 && self.left_in(slot) == 0
     }
 
-    // One more value for a slot.
+    // A slot takes a value, and has room for one less.
     pub(crate) fn take(&mut self, slot: u8)
         ensures state { self.new ≡ rooms.taken_from self.old slot }
     {

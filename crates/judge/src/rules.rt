@@ -65,6 +65,8 @@ fn points_to_trim(rest: &[u8]) -> bool
     requires some { 1 ≤ length rest.now }
     ensures answer { result ≡ rules.points_to_trim rest.now }
 {
-    let back = usize::from(rest[rest.len() - 1]);
-    (2..rest.len()).contains(&back)
+    let [.., back] = rest else {
+        return false;
+    };
+    (2..rest.len()).contains(&usize::from(*back))
 }

@@ -19,7 +19,7 @@ const BLANK: JudgedUnit = JudgedUnit {
     verdict: Verdict::Surplus,
 };
 
-// The verdicts' numbers on the first five units, 9 for each row that judge left.
+// The verdicts' numbers on the first five units, 9 for each row that judge left. It takes what `judge` takes.
 fn verdicts<C: Catalogue>(
     catalogue: &C,
     direction: Direction,
@@ -97,8 +97,8 @@ fn piled_layers(rt: HostRuntime) -> Result<(), Fail> {
     Ok(())
 }
 
-// A catalogue that lists nothing, with length fields of two octets. The reader's tests have their own, since no crate sees
-// another's tests.
+// A catalogue that lists nothing, with length fields of two octets. The reader's tests have their own: no crate sees
+// another's tests, and one for both would be public and no test.
 #[derive(Clone, Copy)]
 struct Wide;
 

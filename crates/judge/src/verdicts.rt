@@ -31,6 +31,7 @@ pub enum Verdict {
 impl From<Verdict> for u8 {
     ghost from_gives = { λ v n. n ≡ verdicts.number_of v };
 
+    // `as` is how an enum's numbers are read
     fn from(verdict: Verdict) -> u8 {
         verdict as u8
     }
@@ -51,6 +52,7 @@ fn passing_row(entry: Option<Row>, contents: &[u8]) -> Result<Row, Verdict>
 }
 
 // The units of an element, judged one after the other: all of them for check 4, and for check 5 the room left in the slots.
+// No `Model`, as of the units.
 #[derive(Drop)]
 pub(crate) struct Judge<'c, 'a, C: Catalogue> {
     units: Units<'c, 'a, C>,

@@ -73,8 +73,8 @@ impl fmt::Display for FaultLine {
     }
 }
 
-// The four hexadecimal figures of an identifier, the highest first. By `hex_figure` and not by a format's own figures, so that
-// the law of the sixteen figures is one of what is printed.
+// The four hexadecimal figures of an identifier, the highest first. By `hex_figure`, since a law of this project stands on a
+// function that its programs call: by a format's `{:02X}` nothing would call that one, and its law would speak of nothing.
 #[derive(Clone, Copy)]
 struct Figures(u16);
 
