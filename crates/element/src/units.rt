@@ -69,7 +69,9 @@ impl<'c, 'a, C: Catalogue> Clone for Units<'c, 'a, C> {
 impl<'c, 'a, C: Catalogue> Copy for Units<'c, 'a, C> {}
 
 impl<'c, 'a, C: Catalogue> Iterator for Units<'c, 'a, C> {
-    ghost use Rattle.std.specs.Iterator.{YieldsFirstBy, item_count};
+    ghost use Rattle.std.specs.Prelude.{length, IfSome};
+    ghost use Rattle.std.specs.Iterator.{YieldsFirstBy, UpTo, item_count};
+    ghost use Rattle.std.specs.Iterator.SizeHint.{IsWithinCount};
     ghost use Rattle.element.specs.Walk.{placed_unit};
     ghost use Rattle.element.specs.Handed.{left_of};
 
@@ -79,6 +81,7 @@ impl<'c, 'a, C: Catalogue> Iterator for Units<'c, 'a, C> {
 
     ghost remaining = { item_count (left_of C.Catalogue) };
 
+    // With clauses of its own a caller's `for` would not be read as one over the members above, so it has none.
     fn next(&mut self) -> Option<PlacedUnit<'a>> {
         if self.left == 0 {
             return None;
@@ -88,7 +91,12 @@ impl<'c, 'a, C: Catalogue> Iterator for Units<'c, 'a, C> {
         Some(unit)
     }
 
-    fn size_hint(&self) -> (usize, Option<usize>) {
+    fn size_hint(&self) -> (usize, Option<usize>)
+        ensures lower { IsWithinCount result.0 (item_count (left_of C.Catalogue) self.now) }
+        ensures upper { IfSome result.1 (UpTo (item_count (left_of C.Catalogue) self.now)) }
+        ensures exact { result ≡
+            (length (left_of C.Catalogue self.now), Some (length (left_of C.Catalogue self.now))) }
+    {
         (self.left, Some(self.left))
     }
 }

@@ -11,7 +11,7 @@ use Rattle.judge.specs.Verdicts.{verdict, filled_after, verdicts_from}
 use Rattle.judge.specs.Rooms.{all_free, met_on, verdict_on, left_on}
 use Rattle.judge.specs.Judging.{judged_unit, rows_from, rows_on}
 use Rattle.judge.proofs.Counting.{Agrees, agrees_none, verdict_same, agrees_after}
-use Rattle.judge.proofs.Finding.{bare}
+use Rattle.element.proofs.Walk.{unit_of}
 
 -- the place n of the rows old, behind the rows done, gets the row r
 set_next : (done old rows : List JudgedUnit) (n : ℕ) (r : JudgedUnit) → length done ≡ n → rows ≡ done ++ drop n old → n < length old → set rows n r ≡ (done ++ r ∷ []) ++ drop (n + 1) old
@@ -27,12 +27,12 @@ module _ (w : Walk) where
   meets = met_on w
 
   abbrev after : List ℕ → Placed → List ℕ
-  after filled p = filled_after w.meaning w.direction meets filled (bare p)
+  after filled p = filled_after w.meaning w.direction meets filled (unit_of p)
 
   -- the rows of units where they stand, after accepted units of the slots `filled`
   abbrev rows_placed : List ℕ → List Placed → List JudgedUnit
   rows_placed filled [] = []
-  rows_placed filled (p ∷ ps) = row_at p (verdict w.meaning w.direction meets filled (bare p)) ∷ rows_placed (after filled p) ps
+  rows_placed filled (p ∷ ps) = row_at p (verdict w.meaning w.direction meets filled (unit_of p)) ∷ rows_placed (after filled p) ps
 
   rows_placed-from : (filled : List ℕ) (p : ℕ) (us : List ElementUnit) → rows_placed filled (placed_from w.meaning w.direction p us) ≡ rows_from w.meaning w.direction p (verdicts_from w.meaning w.direction meets filled us) us
   rows_placed-from filled p [] = refl
@@ -64,9 +64,9 @@ module _ (w : Walk) where
 
     module _ (ps : List Placed) (left : List ℕ) (n : ℕ) (rows : List JudgedUnit) (so : Written ps left n rows) where
       module _ (u : Placed) (qs : List Placed) (one : ps ≡ u ∷ qs) where
-        pub written_more : length (units_left w) ≤ length old → (r : JudgedUnit) → r ≡ row_at u (verdict_on w left (bare u)) → (new : List ℕ) → new ≡ left_on w left (bare u) → Written qs new (n + 1) (set rows n r)
+        pub written_more : length (units_left w) ≤ length old → (r : JudgedUnit) → r ≡ row_at u (verdict_on w left (unit_of u)) → (new : List ℕ) → new ≡ left_on w left (unit_of u) → Written qs new (n + 1) (set rows n r)
         written_more h r is new e =
-            let x = bare u in
+            let x = unit_of u in
             let f = so.filled in
             let row : r ≡ row_at u (verdict w.meaning w.direction meets f x) = cc (verdict_same w.meaning w.direction meets left f so.agrees x) in
             record {

@@ -1,4 +1,5 @@
 -- The checks one after the other, as the code makes them: what a unit that passes has, or the verdict of the first check that fails.
+-- That this verdict, and the room left after it, are those of Rooms.antt is `left_kept` and `left_taken` of proofs/Steps.antt; what the checks are, in the words of the rules, is Checks.antt.
 use Rattle.std.specs.Prelude.{ℕ, cond, List, length, Some, None, Ok, Err, Option, Result}
 use Rattle.catalogue.specs.declared.Row.{Row}
 use Rattle.element.specs.Units.{ElementUnit}

@@ -4,7 +4,8 @@ use Rattle.std.proofs.lemmas.Iterator.Consumers.{YieldsList-from_first}
 use Rattle.element.specs.Handed.{left_of, walk_of_units}
 use Rattle.element.specs.Walk.{Placed, placed_unit}
 use Rattle.judge.specs.Rooms.{passes_as_on}
-use Rattle.judge.proofs.Finding.{bare, list_any-placed}
+use Rattle.element.proofs.Walk.{unit_of}
+use Rattle.judge.proofs.Finding.{list_any-placed}
 use Rattle.judge.proofs.verdicts.Judge.has.Goals as goal
 
 pub returns : goal.returns
@@ -13,7 +14,7 @@ returns g c =
     let i = c.args.identifier in
     record {
       answer =
-          any_from_yields_List (λ (p : Placed). passes_as_on w (bare p) i) c.any.new.self _ c.any.result c.any.ensures.ran
+          any_from_yields_List (λ (p : Placed). passes_as_on w (unit_of p) i) c.any.new.self _ c.any.result c.any.ensures.ran
           (YieldsList-from_first placed_unit (left_of g.C.Catalogue) _ refl) (λ x b q h. search rules)
           ∙ list_any-placed w i;
     }
