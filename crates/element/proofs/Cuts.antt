@@ -40,6 +40,10 @@ module _ (m : Meaning) (d : Direction) where
   next_back p os o (stands u rest) w then h =
       let b = front_back m d os u rest o w in onto_back p u os rest b.0 b.1 (then (p + size m d u) rest) (h u rest b.0 (rest_octets m d os u rest o w))
 
+  -- a unit takes at least three octets
+  pub rest_shorter : (u : ElementUnit) (rest os : List ℕ) → written m d u ++ rest ≡ os → length rest + 3 ≤ length os
+  rest_shorter u rest os e = let same = ap length e in grind (arith, tests, length-append)
+
   pub cutting_back : (k p : ℕ) (os : List ℕ) → Octets os → length os ≤ k → CutBack p os (cutting m d k p os)
   cutting_back zero p [] h l = (refl, tt)
   cutting_back zero p (x ∷ os) h l = absurd (omega arith)

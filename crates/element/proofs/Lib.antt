@@ -3,6 +3,7 @@ pub mod Fronts
 pub mod Cuts
 pub mod Steps
 pub mod RoundTrips
+pub mod Frames
 pub mod Places
 pub mod Refusals
 pub mod Alike

@@ -1,12 +1,12 @@
 -- An element is refused by the first refusal that applies.
-use Rattle.std.proofs.Common.{◌≡◌, ℕ, ◌+◌, ◌<◌, List, [], ◌∷◌, ◌++◌, length, take, drop, sym, refl, ap, ◌∙◌, append_assoc, append-nil, arith, length-append, length-drop, take-append-drop, length-take, take-add}
+use Rattle.std.proofs.Common.{◌≡◌, ℕ, ◌+◌, ◌<◌, cond, eqb, List, [], ◌∷◌, ◌++◌, length, take, drop, sym, refl, ap, ◌∙◌, append_assoc, append-nil, arith, length-append, length-drop, take-append-drop, length-take, take-add}
 use Rattle.std.proofs.lemmas.List.{take_at, drop_at}
 use Rattle.std.proofs.lemmas.Bool.Decides.{nat_tests as tests}
 use Rattle.catalogue.specs.declared.Direction.{Direction}
 use Rattle.catalogue.specs.Meaning.{Meaning}
 use Rattle.catalogue.specs.Laws.{Lawful}
 use Rattle.element.specs.declared.reader.ReaderFault.{ReaderFault}
-use Rattle.element.specs.declared.reader.ReaderFault.TheVariants.{RunsPast}
+use Rattle.element.specs.declared.reader.ReaderFault.TheVariants.{TooShort, WrongFirst, LengthDiffers, TooLong, RunsPast}
 use Rattle.element.specs.Outer.{Outer, LawfulOuter, header}
 use Rattle.element.specs.Units.{Octets, ElementUnit, written, all_written}
 use Rattle.element.specs.Reading.{stuck_at, Reading, whole, declined, reads}
@@ -30,6 +30,27 @@ module _ (m : Meaning) (d : Direction) where
       let one = front_read m d u (all_written m d us ++ os) in
       let other = front_read m d v (all_written m d vs ++ ps) in
       one_cut us vs os ps h k (grind (arith, append_assoc))
+
+  -- after whole units of octets that are all units, a unit stands
+  unit_follows : (us vs : List ElementUnit) (rest : List ℕ) → all_written m d us ≡ all_written m d vs ++ rest → 0 < length rest → (u : ElementUnit) × (after : List ℕ) × (rest ≡ written m d u ++ after)
+  unit_follows [] [] rest e h = absurd (omega (arith, ap length e))
+  unit_follows (u ∷ us) [] rest e h = (u, all_written m d us, sym e)
+  unit_follows [] (v ∷ vs) rest e h = absurd (omega (arith, ap length e))
+  unit_follows (u ∷ us) (v ∷ vs) rest e h =
+      let one = front_read m d u (all_written m d us) in
+      let other = front_read m d v (all_written m d vs ++ rest) in
+      unit_follows us vs rest (grind (arith, append_assoc)) h
+
+-- a fault, from its number and its place
+abbrev fault_of : ℕ → ℕ → ReaderFault
+fault_of n p = cond (eqb n 1) (TooShort p) (cond (eqb n 2) WrongFirst (cond (eqb n 3) (LengthDiffers p) (cond (eqb n 4) (TooLong p) (RunsPast p))))
+
+fault_back : (f : ReaderFault) → fault_of (refusal_of f).number (refusal_of f).place ≡ f
+fault_back (TooShort n) = refl
+fault_back WrongFirst = refl
+fault_back (LengthDiffers n) = refl
+fault_back (TooLong n) = refl
+fault_back (RunsPast p) = refl
 
 module _ (outer : Outer) (lawful : LawfulOuter outer) (m : Meaning) (law : Lawful m) (d : Direction) (e : List ℕ) (octets : Octets e) where
   abbrev rest : List ℕ

@@ -137,6 +137,10 @@ unit_before w = unit_at w.meaning w.direction w.position
 abbrev pub one_on : Walk → Walk
 one_on w = record { meaning = w.meaning; direction = w.direction; position = step_from w.meaning w.direction w.position }
 
+-- the walk behind what stands before it by the meaning m in the direction d; it goes on by its own
+abbrev pub one_on_under : Meaning → Direction → Walk → Walk
+one_on_under m d w = record { meaning = w.meaning; direction = w.direction; position = step_from m d w.position }
+
 -- the octets that a walk has still to cut
 abbrev pub cut_on : Walk → Cut
 cut_on w = cut_from w.meaning w.direction w.position

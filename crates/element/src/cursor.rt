@@ -82,7 +82,27 @@ impl<'c, 'a, C: Catalogue> Cursor<'c, 'a, C> {
         }
     }
 
-    // What the catalogue answers for an identifier in the direction of the walk.
+    /// The next unit as another catalogue cuts it in that direction, lent for this call alone; from there on the cursor reads
+    /// by its own again. What is answered at the end and at a fault is as of `next_unit`.
+    pub fn next_unit_under<D: Catalogue>(
+        &mut self,
+        catalogue: &D,
+        direction: Direction,
+    ) -> Result<Option<PlacedUnit<'a>>, ReaderFault>
+        ensures answer { walk.seen result ≡
+            walk.unit_at (D.meaning catalogue.now) direction (walk.position self.old) }
+        ensures state { walk.walk_of C.meaning self.new ≡
+            walk.one_on_under (D.meaning catalogue.now) direction (walk.walk_of C.meaning self.old) }
+    {
+        let mut step = self.under(catalogue, direction);
+        let found = step.next_unit()?;
+        self.place = step.place;
+        Ok(found)
+    }
+
+    // What the catalogue answers for an identifier in the direction of the walk. Inlined, so that a walk, which reads the width
+    // alone, does not decide the row.
+    #[inline(always)]
     pub(crate) fn answer(&self, identifier: u16) -> Answer
         ensures answer { result ≡ C.meaning self.now.catalogue.now self.now.direction identifier }
     {

@@ -61,8 +61,8 @@ pub fn read<C: Catalogue>(
         laws.summary (reading.reads (C.meaning catalogue.now) direction options element.now) }
     ensures law { laws.ReadingLaw (C.meaning catalogue.now) direction options element.now }
 {
-    let configuration = frame(element)?;
     let units = Units::of(catalogue, direction, element)?.len();
+    let configuration = frame(element)?;
     Ok(Whole {
         configuration,
         units,

@@ -3,7 +3,7 @@ ghost use Rattle.catalogue.specs.Meaning.{answer};
 ghost use Rattle.std.proofs.Common.{rules};
 ghost use Rattle.std.specs.Prelude.{None};
 
-use crate::{Cursor, ReaderFault, Units, Whole, read};
+use crate::{Cursor, PlacedUnit, ReaderFault, Units, Whole, read};
 use catalogue::{Answer, Catalogue, Direction, Edition, Layer, Refusal};
 use std::test::Fail;
 
@@ -129,6 +129,32 @@ fn walks(rt: HostRuntime) -> Result<(), Fail> {
     assert_eq!(rt; units.next(), None);
     assert_eq!(rt; again.len(), 2);
     assert_eq!(rt; again.next(), Some(dns));
+    Ok(())
+}
+
+// One step by a catalogue that is lent for this call alone.
+fn step_by<'a, C: Catalogue, D: Catalogue>(
+    cursor: &mut Cursor<'_, 'a, C>,
+    catalogue: &D,
+) -> Result<Option<PlacedUnit<'a>>, ReaderFault> {
+    cursor.next_unit_under(catalogue, Direction::ToModem)
+}
+
+#[test]
+fn lent_catalogues(rt: HostRuntime) -> Result<(), Fail> {
+    // the first unit has a length field of two octets, the second one of one octet
+    let element = [
+        0x27, 0x0B, 0x80, 0x00, 0x0D, 0x00, 0x03, 0xC0, 0x00, 0x02, 0x00, 0x02, 0x00,
+    ];
+    let mut cursor = Cursor::open(&Edition::Long, Direction::ToModem, &element)?;
+    let wide = step_by(&mut cursor, &Wide)?.ok_or("no first unit")?;
+    assert_eq!(rt; wide.start, 7);
+    assert!(rt; wide.contents == [0xC0, 0x00, 0x02].as_slice());
+    // the cursor goes on from there by its own catalogue, and stays at a fault
+    assert_eq!(rt; step_by(&mut cursor, &Wide), Err(ReaderFault::RunsPast(10)));
+    let flag = cursor.next_unit()?.ok_or("no second unit")?;
+    assert_eq!(rt; flag.place, 10);
+    assert_eq!(rt; step_by(&mut cursor, &Wide), Ok(None));
     Ok(())
 }
 
