@@ -24,6 +24,8 @@ impl Catalogue for Edition {
 
     ghost lawful = { elim [ Short ↦ Prim.search rules | Long ↦ Prim.search rules ] };
 
+    // Inlined, as all that answers is, here and in the layers: a walk reads the width alone, and then no row is decided.
+    #[inline(always)]
     fn answer(&self, direction: Direction, identifier: u16) -> Answer {
         let entry = match self {
             Edition::Short => short_row(direction, identifier),
@@ -36,6 +38,7 @@ impl Catalogue for Edition {
     }
 }
 
+#[inline(always)]
 fn short_row(direction: Direction, identifier: u16) -> Option<Row>
     ensures answer { result ≡ (tables.short direction identifier).entry }
 {
@@ -61,6 +64,7 @@ fn short_row(direction: Direction, identifier: u16) -> Option<Row>
 }
 
 // The identifiers that the long edition adds.
+#[inline(always)]
 fn added_row(direction: Direction, identifier: u16) -> Option<Row>
     ensures answer { result ≡ (tables.added direction identifier).entry }
 {
@@ -83,6 +87,7 @@ fn added_row(direction: Direction, identifier: u16) -> Option<Row>
     }
 }
 
+#[inline(always)]
 #[tactic(auto, using(crate::proofs::Tables::long_is))]
 fn long_row(direction: Direction, identifier: u16) -> Option<Row>
     ensures answer { result ≡ (tables.long direction identifier).entry }
@@ -91,6 +96,7 @@ fn long_row(direction: Direction, identifier: u16) -> Option<Row>
 }
 
 // A row with no companions.
+#[inline(always)]
 fn row(rule: Rule, slot: u8) -> Option<Row>
     ensures answer { result ≡ tables.listed rule slot Companions.None }
 {

@@ -162,6 +162,7 @@ impl<C: Catalogue> Catalogue for OperatorLayer<C> {
     ghost lawful = { λ c. operator_lawful c.code (C.Catalogue.meaning c.below) (C.Catalogue.lawful c.below) };
 
     // A strike order to modem is the operator's; all else is answered from below.
+    #[inline(always)]
     fn answer(&self, direction: Direction, identifier: u16) -> Answer {
         match identifier {
             STRIKE_ORDER if direction == Direction::ToModem => strike_answer(self.code),
@@ -177,6 +178,7 @@ impl<C: Catalogue> Catalogue for NarrowingLayer<C> {
         (C.Catalogue.lawful c.below) };
 
     // The width is that of the catalogue below, also where the identifier is not listed: units are cut alike.
+    #[inline(always)]
     fn answer(&self, direction: Direction, identifier: u16) -> Answer {
         let below = self.below.answer(direction, identifier);
         if self.list.contains(identifier) {
@@ -191,6 +193,7 @@ impl<C: Catalogue> Catalogue for NarrowingLayer<C> {
 }
 
 // What an operator layer answers for the identifier of its strike orders.
+#[inline(always)]
 fn strike_answer(code: OperatorCode) -> Answer
     ensures answer { result ≡ layers.strike_answer code }
 {

@@ -38,6 +38,7 @@ impl From<Verdict> for u8 {
 }
 
 // Checks 1 to 3: the row of an identifier that is supported, if its rule allows the length and takes the value.
+#[inline(always)]
 fn passing_row(entry: Option<Row>, contents: &[u8]) -> Result<Row, Verdict>
     ensures answer { result ≡ steps.passing_row entry contents.now }
 {
@@ -108,7 +109,8 @@ impl<'c, 'a, C: Catalogue> Judge<'c, 'a, C> {
         Ok(row.slot)
     }
 
-    // Checks 1 to 3 on a unit.
+    // Checks 1 to 3 on a unit. Inlined with the answer that it asks for, as each unit comes here.
+    #[inline(always)]
     fn row(&self, unit: PlacedUnit<'_>) -> Result<Row, Verdict>
         ensures answer { result ≡
             steps.row_on (walk_of_units C.Catalogue self.now.units) (unit_of unit.entry) }
