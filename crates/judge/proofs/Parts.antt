@@ -3,6 +3,7 @@ use Rattle.std.proofs.Common.{◌≡◌, ℕ, suc, Bool, ◌||◌, List, [], ◌
 use Rattle.catalogue.specs.declared.Direction.{Direction}
 use Rattle.catalogue.specs.Meaning.{Meaning}
 use Rattle.element.specs.Units.{ElementUnit}
+use Rattle.judge.specs.declared.verdicts.Verdict.{Verdict}
 use Rattle.judge.specs.Verdicts.{TurnedAside, choose, chosen, passes, verdict, filled_after, verdicts_from, filled_by}
 
 module _ (m : Meaning) (d : Direction) (meets : ℕ → Bool) where
@@ -13,6 +14,11 @@ module _ (m : Meaning) (d : Direction) (meets : ℕ → Bool) where
   pub from_length : (filled : List ℕ) (xs : List ElementUnit) → length (verdicts_from m d meets filled xs) ≡ length xs
   from_length filled [] = refl
   from_length filled (x ∷ xs) = ap suc (from_length (filled_after m d meets filled x) xs)
+
+  -- the units chosen of a list are those of its first part, and then those of the rest
+  pub chosen-++ : (filled : List ℕ) (xs : List ElementUnit) (vs : List Verdict) (ys : List ElementUnit) → chosen (verdicts_from m d meets filled xs ++ vs) (xs ++ ys) ≡ chosen (verdicts_from m d meets filled xs) xs ++ chosen vs ys
+  chosen-++ filled [] vs ys = refl
+  chosen-++ filled (x ∷ xs) vs ys = grind (arith, chosen-++ (filled_after m d meets filled x) xs vs ys)
 
 module _ (m : Meaning) (d : Direction) where
   -- a unit that is turned aside leaves the choice of the others

@@ -90,7 +90,9 @@ pub fn judge<C: Catalogue>(
 {
     let units = Units::of(catalogue, direction, element)?;
     let needed = units.len();
-    if rows.len() < needed {
+    // under a name, as the proof of `law` goes by it
+    let few = rows.len() < needed;
+    if few {
         return Err(JudgeFault::TooFewRows(needed));
     }
     write_rows(units, rows);

@@ -5,8 +5,8 @@ pub returns-in_err-units-clause-law : goal.returns-in_err-units-clause-law
 returns-in_err-units-clause-law g c =
     options_law _ (g.met.C.Catalogue.lawful c.args.catalogue.now) _ _ c.type_inv.element _
 
-pub returns-then-rows-needed-clause-law : goal.returns-then-rows-needed-clause-law
-returns-then-rows-needed-clause-law g c =
+pub returns-then-few-clause-law : goal.returns-then-few-clause-law
+returns-then-few-clause-law g c =
     options_law _ (g.met.C.Catalogue.lawful c.args.catalogue.now) _ _ c.type_inv.element _
 
 pub returns-clause-law : goal.returns-clause-law
