@@ -6,5 +6,5 @@ mod lines;
 mod tests;
 mod text;
 
-pub use lines::{CountLine, FaultLine, UnitLine, heading, hex_figure};
+pub use lines::{CountLine, FaultLine, UnitLine, heading, hex_figure, unit_line};
 pub use text::list;

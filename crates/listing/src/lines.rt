@@ -1,11 +1,12 @@
 // The lines of a listing. None ends with a line feed.
-ghost use Rattle.std.specs.Prelude.{◌≡◌, ◌%◌, Some};
+ghost use Rattle.std.specs.Prelude.{◌≡◌, ◌%◌, Some, IfOk, string_bytes};
 ghost use Rattle.element.specs.Walk.{placed_unit};
 ghost use Rattle.listing.specs.Figures as figures;
 ghost use Rattle.listing.specs.Lines as lines;
 
 use catalogue::Refusal;
 use element::PlacedUnit;
+use std::alloc::{AllocError, Global};
 use std::fmt;
 
 /// The hexadecimal figure of the low half of an octet, in upper case.
@@ -42,6 +43,15 @@ impl fmt::Display for UnitLine<'_> {
         let length = unit.contents.len();
         write!(f, "{place} {identifier} {length}")
     }
+}
+
+/// The same line as a text of its own; read as a hexadecimal number, the identifier's figures are the identifier.
+#[tactic(auto, using(crate::proofs::Figures::figures_back))]
+pub fn unit_line(alloc: Global, unit: PlacedUnit<'_>) -> Result<String, AllocError>
+    ensures answer { IfOk result (λ s. string_bytes s ≡ lines.unit_line (placed_unit unit.entry)) }
+    ensures law { figures.value_of (figures.figures_of unit.entry.identifier) ≡ unit.entry.identifier }
+{
+    format!(in alloc; "{}", UnitLine(unit))
 }
 
 /// The last line: how many units and octets the element has, and how it was read.

@@ -1,5 +1,5 @@
 // What the lister prints of some elements.
-use crate::{CountLine, FaultLine, UnitLine, heading, hex_figure, list};
+use crate::{CountLine, FaultLine, UnitLine, heading, hex_figure, list, unit_line};
 use catalogue::{Layer, Refusal};
 use element::PlacedUnit;
 use std::test::Fail;
@@ -22,6 +22,7 @@ fn lines(rt: HostRuntime) -> Result<(), Fail> {
         contents: &[1, 2, 3, 4],
     });
     assert!(rt; unit.to_string(alloc)?.as_str() == "22 0AF9 4");
+    assert!(rt; unit_line(alloc, unit.0)?.as_str() == "22 0AF9 4");
     let counts = CountLine {
         units: 5,
         octets: 44,
