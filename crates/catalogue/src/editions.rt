@@ -24,7 +24,7 @@ impl Catalogue for Edition {
 
     ghost lawful = { elim [ Short ↦ Prim.search rules | Long ↦ Prim.search rules ] };
 
-    // Inlined, as all that answers is, here and in the layers: a walk reads the width alone, and then no row is decided.
+    // Inlined, like all that answers with a row here and in the layers: a walk reads the width alone, and then no row is decided.
     #[inline(always)]
     fn answer(&self, direction: Direction, identifier: u16) -> Answer {
         let entry = match self {

@@ -82,8 +82,8 @@ impl<'c, 'a, C: Catalogue> Cursor<'c, 'a, C> {
         }
     }
 
-    /// The next unit as another catalogue cuts it in that direction, lent for this call alone; from there on the cursor reads
-    /// by its own again. What is answered at the end and at a fault is as of `next_unit`.
+    /// The next unit, as a catalogue that is lent for this call alone cuts it in that direction, and the cursor goes behind it and
+    /// reads on by its own. The end and a fault are answered as by `next_unit`.
     pub fn next_unit_under<D: Catalogue>(
         &mut self,
         catalogue: &D,
